@@ -1,11 +1,13 @@
 -- What the code's values say: each as one of the plain market's own. Assumes nothing: these are definitions.
-use mathlib.Core.List.{List, [], _∷_}
-use Prim.Native.Nat.{ℕ, zero, suc, _+_, _*_}
+use mathlib.Core.Bool.{Bool, false, _&&_}
+use mathlib.Core.List.{List, [], _∷_, map}
+use Prim.Native.Nat.{ℕ, zero, suc, _+_, _-_, _*_}
 use lib.Dec.{leb}
-use lib.ListN.{length}
+use lib.ListN.{length, getD}
 use Rattle.venue.specs.World as world
 use Rattle.wire.specs.Number.{four}
 use Rattle.wire.specs.declared.item.Item.{Item}
+use Rattle.wire.specs.declared.kinds.Kinds.{Kinds}
 use Rattle.wire.specs.declared.message.Message.{Message}
 use Rattle.wire.specs.declared.message.Message.the-variants.{PayIn, PayOut, Place, Cancel, EndDay, BeginDay}
 use Rattle.wire.specs.declared.refusal.Refusal.{Refusal}
@@ -38,6 +40,10 @@ message-of bs n (EndDay i) =
     world.pick (leb (i + 8 * n) (length bs)) (world.end-day (column bs i n) (column bs (i + 4) n)) (world.end-day [] [])
 message-of bs n BeginDay = world.begin-day
 
+-- the end of day that these items' prices and bands make
+abbrev pub evening-of : List Item → world.Message
+evening-of is = world.end-day (map (λ (i : Item). i .price) is) (map (λ (i : Item). i .band) is)
+
 abbrev pub report-of : Report → world.Report
 report-of (Taken n) = world.done n
 report-of Refused = world.no
@@ -60,3 +66,11 @@ refusal-place (Range i) = i
 refusal-place (Layout b) = b * 512
 refusal-place (Memory n) = n
 refusal-place (refusal.Message i) = i
+
+-- whether a number is a kind's
+abbrev pub kind-there : ℕ → Bool
+kind-there h = leb 1 h && leb h 6
+
+-- which kinds of messages a market has: kind h is the one in place h − 1
+abbrev pub kinds-of : Kinds → ℕ → Bool
+kinds-of k h = kind-there h && getD (k .built) (h - 1) false

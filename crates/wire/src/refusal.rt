@@ -1,4 +1,6 @@
 // Why a disc, a start or the bytes of a message are not taken.
+ghost use Rattle.wire.specs.Means.{refusal-number, refusal-place};
+ghost use mathlib.Core.Path.{_≡_};
 
 #[derive(Clone, Copy)]
 pub enum Refusal {
@@ -14,4 +16,34 @@ pub enum Refusal {
     Memory { bytes: usize },
     // The bytes at `at` are no message.
     Message { at: usize },
+}
+
+impl Refusal {
+    // The number that stands for it outside.
+    pub fn number(&self) -> u8
+        ensures { λ r. ⌜ r ≡ refusal-number (now (self .entry)) ⌝ }
+    {
+        match self {
+            Refusal::Length { .. } => 1,
+            Refusal::NoMark => 2,
+            Refusal::Range { .. } => 3,
+            Refusal::Layout { .. } => 4,
+            Refusal::Memory { .. } => 5,
+            Refusal::Message { .. } => 6,
+        }
+    }
+
+    // The byte that it is about, or how many there are or should be; a block may begin past what a usize counts.
+    pub fn place(&self) -> u128
+        ensures { λ r. ⌜ r ≡ refusal-place (now (self .entry)) ⌝ }
+    {
+        match *self {
+            Refusal::Length { bytes } => bytes as u128,
+            Refusal::NoMark => 0,
+            Refusal::Range { at } => at as u128,
+            Refusal::Layout { block } => block as u128 * 512,
+            Refusal::Memory { bytes } => bytes as u128,
+            Refusal::Message { at } => at as u128,
+        }
+    }
 }

@@ -1,0 +1,11 @@
+pub mod Places
+pub mod Numbers
+pub mod Columns
+pub mod Rows
+pub mod Whole
+pub mod Back
+pub mod Only
+pub mod ReportBack
+pub mod ReportOnly
+pub mod ReportRows
+pub mod RowSteps
