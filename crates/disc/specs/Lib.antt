@@ -1,0 +1,5 @@
+pub mod Numbers
+pub mod Layout
+pub mod Block0
+pub mod Means
+pub mod New
