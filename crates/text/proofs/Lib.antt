@@ -1,0 +1,7 @@
+mod Runs
+mod Numerals
+mod Items
+mod Plans
+mod Follows
+mod Ends
+mod Firsts
