@@ -15,7 +15,8 @@ use Rattle.std.specs.Holes.{removed}
 use Rattle.std.specs.declared.option.Option.the-variants.{Some, None}
 use Rattle.venue.specs.World as world
 use Rattle.venue.specs.World.{World, Limits, pick, number-at, without, says-it, cancel, done, no, with-orders}
-use Rattle.reference.specs.Means.{order-of, found}
+use Rattle.reference.specs.Means.{order-of}
+use Rattle.reference.specs.Parts.{found}
 use Rattle.reference.specs.declared.market.Order.{Order}
 use Rattle.reference.proofs.Places.{blank-order}
 

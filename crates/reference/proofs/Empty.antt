@@ -10,7 +10,7 @@ use Rattle.std.specs.declared.vec.Vec.{Vec}
 use Rattle.venue.specs.World.{World, Report}
 use Rattle.wire.specs.Means.{report-of}
 use Rattle.wire.specs.declared.report.Report as code
-use Rattle.reference.specs.Means.{after}
+use Rattle.reference.specs.Parts.{after}
 
 nothing : {A : Type 0} (xs : List A) → length xs ≡ 0 → xs ≡ []
 nothing [] e = refl

@@ -11,12 +11,14 @@ use lib.ListN.{length, getD}
 use Rattle.std.proofs.shelf.Elements.{all-getD}
 use Rattle.std.proofs.shelf.Tests.{cases-bool, cases-lt, eq-eqb, ne-eqb, le-leb, lt-leb}
 use Rattle.std.proofs.shelf.Ways.{tells}
-use Rattle.venue.specs.World.{World, Order, Report, pick, is-buy, gets, traded, taken, with-orders, with-account, matched, best, less-left, lesser, trade, no-order}
+use Rattle.venue.specs.World.{World, Order, Report, pick, is-buy, gets, traded, taken, with-orders, with-account, matched, best, less-left, lesser}
+use Rattle.venue.specs.World.{trade, no-order}
 use Rattle.venue.specs.Invariant.{Left}
 use Rattle.venue.specs.Ranges.{Order-range}
 use Rattle.venue.proofs.Matching.{turn-goes}
 use Rattle.venue.proofs.RangesMarket.{turn-range}
-use Rattle.reference.specs.Means.{after, filled, Filling, Roomy}
+use Rattle.reference.specs.Conditions.{Filling, Roomy}
+use Rattle.reference.specs.Parts.{after, filled}
 use Rattle.reference.proofs.Ranges.{turn-roomy}
 
 orders-either : (b : Bool) (u v : World) (os : List Order) → u .orders ≡ os → v .orders ≡ os → pick b u v .orders ≡ os
@@ -28,7 +30,8 @@ pub traded-orders : (w : World) (o r : Order) (j x : ℕ) → traded w o r j x .
 unfolding traded gets with-account with-orders
 traded-orders w o r j x = orders-either (is-buy (o .side)) _ _ (taken j x (w .orders)) refl refl
 
-pub length-taken : (j x : ℕ) (os : List Order) → j < length os → length (taken j x os) ≡ pick (leb (getD os j no-order .left) x) (length os - 1) (length os)
+pub length-taken : (j x : ℕ) (os : List Order) → j < length os → length (taken j x os) ≡ pick (leb (getD os j no-order .left) x) (length os - 1)
+    (length os)
 unfolding taken
 length-taken j x [] h = absurd (omega arith)
 length-taken zero x (o ∷ os) h = ⊎-elim (λ e. rw e (omega arith)) (λ e. rw e) (cases-bool (leb (o .left) x))
@@ -45,12 +48,14 @@ unfolding filled
 filled-done w o e = matched-done (suc (length (w .orders))) w o (omega arith) e
 
 -- no order meets it
-pub filled-stands : (w : World) (o : Order) → (o .left ≡ 0 → ⊥) → length (w .orders) ≤ best o (w .orders) → filled w o ≡ (with-orders w (w .orders ++ o ∷ []), [])
+pub filled-stands : (w : World) (o : Order) → (o .left ≡ 0 → ⊥) → length (w .orders) ≤ best o (w .orders) → filled w o ≡
+    (with-orders w (w .orders ++ o ∷ []), [])
 unfolding filled matched
 filled-stands w o ne le = rw (ne-eqb (o .left) 0 ne, le-leb (length (w .orders)) (best o (w .orders)) le)
 
 -- it trades with the first that meets it, and goes on
-again : (w : World) (o r : Order) (j x : ℕ) → (o .left ≡ 0 → ⊥) → j < length (w .orders) → r ≡ getD (w .orders) j no-order → x ≡ lesser (o .left) (r .left) →
+again : (w : World) (o r : Order) (j x : ℕ) → (o .left ≡ 0 → ⊥) → j < length (w .orders) → r ≡ getD (w .orders) j no-order → x ≡ lesser (o .left)
+    (r .left) →
     matched (length (w .orders)) (traded w o r j x) (less-left o x) ≡ filled (traded w o r j x) (less-left o x)
 unfolding filled less-left
 again w o r j x ne lt er ex =
@@ -73,7 +78,8 @@ unfolding filled matched after
 one w o r j x ne ej lt er ex =
     rw (ex, er, ej, ne-eqb (o .left) 0 ne, lt-leb (length (w .orders)) (best o (w .orders)) (rw ej at lt))
 
-pub filled-trades : (w : World) (o r : Order) (j x : ℕ) → (o .left ≡ 0 → ⊥) → j ≡ best o (w .orders) → j < length (w .orders) → r ≡ getD (w .orders) j no-order →
+pub filled-trades : (w : World) (o r : Order) (j x : ℕ) → (o .left ≡ 0 → ⊥) → j ≡ best o (w .orders) → j < length (w .orders) → r ≡ getD (w .orders)
+    j no-order →
     x ≡ lesser (o .left) (r .left) →
     filled w o ≡ after (trade (o .number) (r .number) (o .item) (r .price) x ∷ []) (filled (traded w o r j x) (less-left o x))
 filled-trades w o r j x ne ej lt er ex = rw (← again w o r j x ne lt er ex) (one w o r j x ne ej lt er ex)
@@ -87,7 +93,8 @@ unfolding after
 after-more rs r p = ap (λ qs. (p .0, qs)) (sym (append-assoc rs (r ∷ []) (p .1)))
 
 -- one turn of the loop
-pub turn : (w w′ : World) (o r : Order) (j x : ℕ) (rs : List Report) → (o .left ≡ 0 → ⊥) → j ≡ best o (w .orders) → j < length (w .orders) → r ≡ getD (w .orders) j no-order →
+pub turn : (w w′ : World) (o r : Order) (j x : ℕ) (rs : List Report) → (o .left ≡ 0 → ⊥) → j ≡ best o (w .orders) → j < length (w .orders) → r ≡ getD
+    (w .orders) j no-order →
     x ≡ lesser (o .left) (r .left) → w′ ≡ traded w o r j x →
     after (rs ++ trade (o .number) (r .number) (o .item) (r .price) x ∷ []) (filled w′ (less-left o x)) ≡ after rs (filled w o)
 turn w w′ o r j x rs ne ej lt er ex e =

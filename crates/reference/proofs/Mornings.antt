@@ -10,8 +10,9 @@ use lib.ListN.{length}
 use lib.Signed.{ltZ, _≤ℤ_}
 use Rattle.std.proofs.shelf.Signed.{ints}
 use Rattle.std.proofs.shelf.Tests.{cases-bool}
-use Rattle.venue.specs.World.{World, Report, Limits, says-it, begin-day, done, no, account, held, item, opposite, signed, gets, tear, tear-items, tear-all, torn, covered}
-use Rattle.reference.specs.Means.{after, amount, torn-one}
+use Rattle.venue.specs.World.{World, Report, Limits, says-it, begin-day, done, no, account, held, item, opposite, signed, gets, tear, tear-items}
+use Rattle.venue.specs.World.{tear-all, torn, covered}
+use Rattle.reference.specs.Parts.{after, amount, torn-one}
 
 pub opposite-above : (h g : ℤ) → ltZ (pos 0) h ≡ true → ltZ g (pos 0) ≡ opposite h g
 unfolding opposite

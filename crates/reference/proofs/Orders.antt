@@ -15,7 +15,8 @@ use Rattle.std.proofs.shelf.Ways.{tells}
 use Rattle.std.proofs.shelf.Lists.{length-drop, getD-drop, drop-all}
 use Rattle.venue.specs.World as world
 use Rattle.venue.specs.World.{pick, best, taken, less-left, meets, better}
-use Rattle.reference.specs.Means.{order-of, first-of}
+use Rattle.reference.specs.Means.{order-of}
+use Rattle.reference.specs.Parts.{first-of}
 use Rattle.reference.proofs.Places.{blank-order}
 use Rattle.reference.specs.declared.market.Order.{Order}
 
@@ -25,13 +26,15 @@ sooner true true x y = refl
 sooner true false x y = refl
 sooner false b x y = refl
 
-pub taken-all : (os : List Order) (j x : ℕ) → j < length os → getD os j blank-order .left ≤ x → taken j x (map order-of os) ≡ map order-of (removed os j)
+pub taken-all : (os : List Order) (j x : ℕ) → j < length os → getD os j blank-order .left ≤ x → taken j x (map order-of os) ≡ map order-of
+    (removed os j)
 unfolding taken
 taken-all [] j x h l = absurd (omega arith)
 taken-all (o ∷ os) zero x h l = rw (le-leb _ _ l)
 taken-all (o ∷ os) (suc j) x h l = ap (λ rs. order-of o ∷ rs) (taken-all os j x (le-of-suc-le-suc h) l)
 
-pub taken-some : (os : List Order) (j x : ℕ) (r : Order) → j < length os → x < getD os j blank-order .left → order-of r ≡ less-left (order-of (getD os j blank-order)) x →
+pub taken-some : (os : List Order) (j x : ℕ) (r : Order) → j < length os → x < getD os j blank-order .left → order-of r ≡ less-left
+    (order-of (getD os j blank-order)) x →
     taken j x (map order-of os) ≡ map order-of (set os j r)
 unfolding taken
 taken-some [] j x r h l e = absurd (omega arith)
@@ -49,7 +52,8 @@ best-more o os i at h le e =
     let b : ltb (best o (drop (suc i) os)) (length (drop (suc i) os)) ≡ ltb at (length os) = grind (arith, tells) in
     let q : getD (drop (suc i) os) (best o (drop (suc i) os)) world.no-order ≡ getD os at world.no-order = rw (getD-drop, ← e) in
     let g : suc (best o (drop (suc i) os)) ≡ at - i = omega arith in
-    rw (drop-cons os i world.no-order, b, q, g) (sooner (meets o (getD os i world.no-order)) (ltb at (length os) && better o (getD os at world.no-order .price) (getD os i world.no-order .price)) 0 (at - i))
+    rw (drop-cons os i world.no-order, b, q, g) (sooner (meets o (getD os i world.no-order))
+    (ltb at (length os) && better o (getD os at world.no-order .price) (getD os i world.no-order .price)) 0 (at - i))
 
 pub best-none : (o : world.Order) (os : List world.Order) (i : ℕ) → length os ≤ i → best o (drop i os) ≡ 0
 unfolding best

@@ -10,7 +10,8 @@ use lib.ListN.{length}
 use Rattle.std.proofs.shelf.Ways.{tells}
 use Rattle.venue.specs.Turn.{may-place}
 use Rattle.venue.specs.World.{World, Limits, Side, pick, item, account, held, abs, standing, covered, new-order, counted, says-it, place, done, no}
-use Rattle.reference.specs.Means.{after, filled, well-formed, world-of}
+use Rattle.reference.specs.Means.{world-of}
+use Rattle.reference.specs.Parts.{after, filled, well-formed}
 use Rattle.reference.specs.declared.market.Market.{Market}
 
 and-four : (x y z u : Bool) → (x && (y && (z && u))) ≡ ((x && (y && z)) && u)
@@ -26,11 +27,18 @@ pub record Well (z : Limits) (w : World) (a k q : ℕ) : Type 0 where
 
 module _ (z : Limits) (w : World) (a k p q : ℕ) where
   pub well-tells : well-formed z w a k p q ≡ true → Well z w a k q
-  well-tells e = record { account-in = grind (arith, tells); item-in = grind (arith, tells); room = grind (arith, tells); number = grind (arith, tells) }
+  well-tells e = record {
+    account-in = grind (arith, tells);
+    item-in = grind (arith, tells);
+    room = grind (arith, tells);
+    number = grind
+        (arith, tells);
+  }
 
   module _ (s : Side) where
     pub may-is : may-place z w a k s p q ≡
-        (well-formed z w a k p q && (leb (abs (held (account w a) k) + standing a k (w .orders) + q) (z .holding) && covered w a (w .orders ++ new-order w a k s p q ∷ [])))
+        (well-formed z w a k p q && (leb (abs (held (account w a) k) + standing a k (w .orders) + q) (z .holding) && covered w a
+        (w .orders ++ new-order w a k s p q ∷ [])))
     may-is =
         and-four (w .trading && (ltb a (length (w .accounts)) && ltb k (length (w .items))))
         ((leb 1 q && leb q 1000000) && (leb (item w k .price) (p + item w k .band) && leb p (item w k .price + item w k .band)))
@@ -48,6 +56,7 @@ module _ (z : Limits) (w : World) (a k p q : ℕ) where
 
 -- a market whose next number is counted up
 pub counted-is : (m : Market) (w : World) → world-of m ≡ w →
-    world-of (record { items = m .items; accounts = m .accounts; orders = m .orders; next = m .next + 1; money = m .money; trading = m .trading }) ≡ counted w
+    world-of (record { items = m .items; accounts = m .accounts; orders = m .orders; next = m .next + 1; money = m .money; trading = m .trading }) ≡
+    counted w
 unfolding counted
 counted-is m w e = rw add-one (ap counted e)

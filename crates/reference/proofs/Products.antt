@@ -9,7 +9,7 @@ use lib.Signed.{_≤ℤ_}
 use Rattle.std.proofs.shelf.Signed.{ints}
 use Rattle.std.proofs.shelf.Tests.{le-ltb}
 use Rattle.venue.specs.World.{Account, Item, Order, buys, sells, need-in, larger, abs}
-use Rattle.reference.specs.Means.{Within}
+use Rattle.reference.specs.Conditions.{Within}
 
 -- a product of a number within H of 0 and one of at most B is within H * B
 pub product-within : (h : ℤ) (n H B : ℕ) → Within H h → n ≤ B → Within (H * B) (h *ℤ pos n)

@@ -17,7 +17,7 @@ use Rattle.venue.specs.Turn.{Turn}
 use Rattle.venue.specs.World.{World, Order, Limits, Account, abs, account, end-day, item, new-items, no-item, nobody, paid, prices-fit, says, says-it}
 use Rattle.venue.proofs.RangesMarket.{cash-range, sized-says, sized-small, sound-range, turn-range, tearing-range}
 use Rattle.venue.proofs.Sounds.{inv-sound, sound-inv, sound-says, tearing-begins}
-use Rattle.reference.specs.Means.{Fit, Morning, Roomy, Settles, Small-sizes, Standing, Within}
+use Rattle.reference.specs.Conditions.{Fit, Morning, Roomy, Settles, Small-sizes, Standing, Within}
 use Rattle.reference.proofs.Products.{abs-is}
 use Rattle.reference.proofs.Settled.{length-paid, paid-at}
 
@@ -62,7 +62,8 @@ module _ (z : Limits) (w : World) (most : ℕ) (s : Standing z w most) where
   standing-morning e =
       record { limits = z; small = sized-small z w (s .sized); tearing = tearing-begins z w (s .sound) e }
 
-inv-any : (z : Limits) (w : World) → Inv z w → (k : ℕ → Bool) → Inv (record { orders = z .orders; money = z .money; holding = z .holding; built = k }) w
+inv-any : (z : Limits) (w : World) → Inv z w → (k : ℕ → Bool) → Inv
+    (record { orders = z .orders; money = z .money; holding = z .holding; built = k }) w
 inv-any z w i k =
     record {
       wide = i .wide;

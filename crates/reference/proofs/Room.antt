@@ -10,7 +10,7 @@ use lib.Seq.{getD-set-same, getD-set-other}
 use Rattle.std.proofs.shelf.Signed.{ints}
 use Rattle.std.proofs.shelf.Tests.{cases-eq}
 use Rattle.venue.specs.World.{World, Account, Order, account, held, item, gets, with-account, with-orders, nobody}
-use Rattle.reference.specs.Means.{Within, Roomy}
+use Rattle.reference.specs.Conditions.{Within, Roomy}
 use Rattle.reference.proofs.Products.{times-within}
 
 within-less : (z d : ℤ) (c e : ℕ) → Within c z → Within e d → Within (c + e) (z -ℤ d)

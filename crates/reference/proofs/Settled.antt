@@ -63,7 +63,8 @@ module _ (bs : List ℕ) (i j n : ℕ) (is : List Item) (k : ℕ) where
 
   pub gain-more : (x : world.Account) → k < length is → k < n →
       gain k (map item-of (drop k is)) (rest bs i n k) x ≡
-      (held x k *ℤ (pos (four bs (i + 8 * k)) -ℤ pos (getD is k blank-item .price))) +ℤ gain (k + 1) (map item-of (drop (k + 1) is)) (rest bs i n (k + 1)) x
+      (held x k *ℤ (pos (four bs (i + 8 * k)) -ℤ pos (getD is k blank-item .price))) +ℤ gain (k + 1) (map item-of (drop (k + 1) is))
+      (rest bs i n (k + 1)) x
   unfolding gain
   gain-more x h l = rw (rest-more bs i n k l, add-one k, drop-cons is k blank-item)
 

@@ -14,7 +14,8 @@ use Rattle.venue.proofs.Sounds.{sound-says}
 use Rattle.venue.specs.Sizes.{Sized}
 use Rattle.venue.specs.Sound.{Sound}
 use Rattle.venue.specs.World.{World, Limits, Message, begin-day, cancel, end-day, kind, no, pay-in, pay-out, pick, place, says, says-it}
-use Rattle.reference.specs.Means.{Standing, limits-of}
+use Rattle.reference.specs.Means.{limits-of}
+use Rattle.reference.specs.Conditions.{Standing}
 use Rattle.reference.specs.declared.limits.Limits as code
 
 module _ (l : code.Limits) (k : ℕ → Bool) (w : World) where
@@ -44,7 +45,8 @@ module _ (l : code.Limits) (k : ℕ → Bool) (w : World) where
         le-leb (l .money) 1125899906842624 (s .money),
       )
 
-  pub stands : (most : ℕ) → Sound (limits-of l k) w → counts-fit (length (w .items)) (length (w .accounts)) (l .orders) (l .money) ≡ true → l .orders ≤ most →
+  pub stands : (most : ℕ) → Sound (limits-of l k) w → counts-fit (length (w .items)) (length (w .accounts)) (l .orders) (l .money) ≡ true → l .orders
+      ≤ most →
       Standing (limits-of l k) w most
   stands most s e r = record { sound = s; sized = sizes-tell e; room = r }
 

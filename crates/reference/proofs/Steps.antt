@@ -13,7 +13,8 @@ use Rattle.venue.specs.World as world
 use Rattle.venue.specs.World.{need-from, need-in, held, pick, standing, buys, sells}
 use Rattle.wire.specs.Means.{item-of}
 use Rattle.wire.specs.declared.item.Item.{Item}
-use Rattle.reference.specs.Means.{order-of, buy-loss, sell-loss}
+use Rattle.reference.specs.Means.{order-of}
+use Rattle.reference.specs.Parts.{buy-loss, sell-loss}
 use Rattle.reference.specs.declared.market.Order.{Order}
 use Rattle.reference.proofs.Places.{blank-order, blank-item}
 

@@ -6,7 +6,7 @@ use native.Mathlib.Omega.{arith}
 use lib.ListN.{length, take, length-append}
 use Rattle.std.proofs.shelf.Lists.{take-append-le, take-all}
 use Rattle.venue.specs.World.{World, Order, account, covered, need, with-orders}
-use Rattle.reference.specs.Means.{Fit}
+use Rattle.reference.specs.Conditions.{Fit}
 use Rattle.reference.proofs.Room.{roomy-orders}
 
 module _ (w v : World) (o : Order) (e : v ≡ with-orders w (w .orders ++ o ∷ [])) where

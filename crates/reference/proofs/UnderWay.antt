@@ -17,7 +17,9 @@ use Rattle.venue.proofs.TearAll.{tears-items}
 use Rattle.venue.proofs.TearUp.{Tears, tearing-goes, tears-none, tears-tear}
 use Rattle.wire.specs.Means.{report-of}
 use Rattle.wire.specs.declared.report.Report as code
-use Rattle.reference.specs.Means.{after, torn-account, torn-one, world-of, Fit, Morning, Small-sizes}
+use Rattle.reference.specs.Means.{world-of}
+use Rattle.reference.specs.Conditions.{Fit, Morning, Small-sizes}
+use Rattle.reference.specs.Parts.{after, torn-account, torn-one}
 use Rattle.reference.specs.declared.market.Market.{Market}
 use Rattle.reference.proofs.Fills.{after-none}
 use Rattle.reference.proofs.Mornings.{after-join, tear-turn}
@@ -148,7 +150,8 @@ pub tear-from : (n b a k : ℕ) (w : World) → b < n →
 tear-from n b a k w h = let e : n - b ≡ suc (n - (b + 1)) = omega arith in rw (e, add-one b) (tear-turn (n - suc b) b a k w)
 
 pub items-from : (n k a : ℕ) (w : World) → k < n →
-    tear-items (n - k) k a w ≡ after (tear (length (w .accounts)) 0 a k w .1) (tear-items (n - (k + 1)) (k + 1) a (tear (length (w .accounts)) 0 a k w .0))
+    tear-items (n - k) k a w ≡ after (tear (length (w .accounts)) 0 a k w .1)
+    (tear-items (n - (k + 1)) (k + 1) a (tear (length (w .accounts)) 0 a k w .0))
 items-from n k a w h = let e : n - k ≡ suc (n - (k + 1)) = omega arith in rw (e, add-one k) (items-turn (n - suc k) k a w)
 
 pub all-from : (n a : ℕ) (w : World) → a < n →

@@ -1,2 +1,4 @@
 pub mod Means
+pub mod Conditions
+pub mod Parts
 pub mod Plain

@@ -1,6 +1,7 @@
 // Cancelling an order.
 ghost use Prim.Native.Nat.{ℕ};
-ghost use Rattle.reference.specs.Means.{order-of, world-of, limits-of, answer, found};
+ghost use Rattle.reference.specs.Means.{order-of, world-of, limits-of};
+ghost use Rattle.reference.specs.Parts.{answer, found};
 ghost use Rattle.std.specs.Of.Vec.{vec-cap};
 ghost use Rattle.venue.specs.World as world;
 ghost use mathlib.Core.Bool.{Bool};

@@ -1,6 +1,8 @@
 // The day's end: each holding's gain or loss is paid, new prices and bands hold, and orders are gone.
 ghost use Prim.Native.Nat.{ℕ, _+_, _*_, _^_, _<_, _≤_};
-ghost use Rattle.reference.specs.Means.{account-of, order-of, world-of, limits-of, answer, Fit, Settles, Within};
+ghost use Rattle.reference.specs.Means.{account-of, order-of, world-of, limits-of};
+ghost use Rattle.reference.specs.Conditions.{Fit, Settles, Within};
+ghost use Rattle.reference.specs.Parts.{answer};
 ghost use Rattle.std.specs.Of.Vec.{vec-items, vec-len, vec-cap};
 ghost use Rattle.venue.specs.World as world;
 ghost use Rattle.wire.specs.Means.{column, item-of, message-of};

@@ -1,6 +1,8 @@
 // An order meets those that stand.
 ghost use Prim.Native.Nat.{_+_, _≤_};
-ghost use Rattle.reference.specs.Means.{order-of, world-of, after, filled, Filling};
+ghost use Rattle.reference.specs.Means.{order-of, world-of};
+ghost use Rattle.reference.specs.Conditions.{Filling};
+ghost use Rattle.reference.specs.Parts.{after, filled};
 ghost use Rattle.std.specs.Of.Vec.{vec-items, vec-len, vec-cap};
 ghost use Rattle.wire.specs.Means.{report-of};
 ghost use lib.ListN.{length};

@@ -1,5 +1,6 @@
 // Which order another trades with, and what is left of it.
-ghost use Rattle.reference.specs.Means.{order-of, first-of};
+ghost use Rattle.reference.specs.Means.{order-of};
+ghost use Rattle.reference.specs.Parts.{first-of};
 ghost use lib.ListN.{length};
 ghost use Rattle.std.specs.Of.Vec.{vec-items, vec-len, vec-cap};
 ghost use Rattle.venue.specs.World as world;

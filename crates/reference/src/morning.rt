@@ -1,6 +1,8 @@
 // The day's begin: holdings that are not covered are torn up.
 ghost use Prim.Native.Nat.{ℕ, _+_, _<_, _≤_};
-ghost use Rattle.reference.specs.Means.{world-of, limits-of, after, torn-account, torn-one, Morning, Small-sizes, Within};
+ghost use Rattle.reference.specs.Means.{world-of, limits-of};
+ghost use Rattle.reference.specs.Conditions.{Morning, Small-sizes, Within};
+ghost use Rattle.reference.specs.Parts.{after, torn-account, torn-one};
 ghost use Rattle.std.specs.Of.Vec.{vec-items, vec-len, vec-cap};
 ghost use Rattle.venue.specs.World as world;
 ghost use Rattle.wire.specs.Means.{report-of};

@@ -1,6 +1,7 @@
 // Money and holdings that change hands.
 ghost use Prim.Native.Nat.{_<_, _≤_};
-ghost use Rattle.reference.specs.Means.{account-of, held-of, world-of, Within, Roomy};
+ghost use Rattle.reference.specs.Means.{account-of, held-of, world-of};
+ghost use Rattle.reference.specs.Conditions.{Within, Roomy};
 ghost use Rattle.std.specs.Of.Vec.{vec-items, vec-len, vec-cap};
 ghost use Rattle.venue.specs.World as world;
 ghost use lib.IntN.{pos, _+ℤ_, _-ℤ_, _*ℤ_};

@@ -1,6 +1,8 @@
 // What an account can lose by the day's end.
 ghost use Prim.Native.Nat.{_^_, _<_, _≤_};
-ghost use Rattle.reference.specs.Means.{order-of, account-of, Within, buy-loss, sell-loss};
+ghost use Rattle.reference.specs.Means.{order-of, account-of};
+ghost use Rattle.reference.specs.Conditions.{Within};
+ghost use Rattle.reference.specs.Parts.{buy-loss, sell-loss};
 ghost use Rattle.std.specs.Of.Vec.{vec-len};
 ghost use Rattle.venue.specs.World.{is-buy, buys, sells, need-in, need-from};
 ghost use Rattle.wire.specs.Means.{side-of, item-of};

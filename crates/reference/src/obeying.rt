@@ -1,6 +1,8 @@
 // What each message does.
 ghost use Prim.Native.Nat.{ℕ, _≤_};
-ghost use Rattle.reference.specs.Means.{world-of, limits-of, answer, Standing};
+ghost use Rattle.reference.specs.Means.{world-of, limits-of};
+ghost use Rattle.reference.specs.Conditions.{Standing};
+ghost use Rattle.reference.specs.Parts.{answer};
 ghost use Rattle.std.specs.Of.Vec.{vec-items, vec-len, vec-cap};
 ghost use Rattle.venue.specs.World as world;
 ghost use Rattle.wire.specs.Means.{message-of, report-of};

@@ -1,6 +1,8 @@
 // Paying in and paying out.
 ghost use Prim.Native.Nat.{ℕ, _<_, _≤_, _^_};
-ghost use Rattle.reference.specs.Means.{world-of, limits-of, answer, Within, Fit};
+ghost use Rattle.reference.specs.Means.{world-of, limits-of};
+ghost use Rattle.reference.specs.Conditions.{Within, Fit};
+ghost use Rattle.reference.specs.Parts.{answer};
 ghost use Rattle.std.specs.Of.Vec.{vec-cap};
 ghost use Rattle.venue.specs.World as world;
 ghost use lib.ListN.{length};

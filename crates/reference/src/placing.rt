@@ -1,6 +1,8 @@
 // Placing an order.
 ghost use Prim.Native.Nat.{ℕ, _+_, _<_, _≤_};
-ghost use Rattle.reference.specs.Means.{order-of, world-of, limits-of, after, well-formed, Fit, Within};
+ghost use Rattle.reference.specs.Means.{order-of, world-of, limits-of};
+ghost use Rattle.reference.specs.Conditions.{Fit, Within};
+ghost use Rattle.reference.specs.Parts.{after, well-formed};
 ghost use Rattle.std.specs.Of.Vec.{vec-items, vec-len, vec-cap};
 ghost use Rattle.venue.specs.Sound.{Sound};
 ghost use Rattle.venue.specs.Turn.{may-place};

@@ -1,6 +1,7 @@
 // Orders that trade with one another.
 ghost use Prim.Native.Nat.{_<_, _≤_};
-ghost use Rattle.reference.specs.Means.{order-of, world-of, Within, Roomy};
+ghost use Rattle.reference.specs.Means.{order-of, world-of};
+ghost use Rattle.reference.specs.Conditions.{Within, Roomy};
 ghost use Rattle.std.specs.Of.Vec.{vec-len, vec-cap};
 ghost use Rattle.venue.specs.World as world;
 ghost use lib.IntN.{pos, negℤ};

@@ -11,7 +11,8 @@ use Rattle.reference.proofs.cancelling.place_of.Needs as need
 pub returns-then-o-account : need.returns-then-o-account
 returns-then-o-account c =
     let e = number-more (c .args .account) (c .args .number) (c .args .orders .now) (c .loop-i .i) (c .loop-i-test .taken) in
-    found-there (c .args .account) (c .args .number) (map order-of (c .args .orders .now)) (c .loop-i .i) (grind (arith, tells)) (simp length-map (c .loop-i-test .taken))
+    found-there (c .args .account) (c .args .number) (map order-of (c .args .orders .now)) (c .loop-i .i) (grind (arith, tells))
+    (simp length-map (c .loop-i-test .taken))
 
 pub loop-i-again : need.loop-i-again
 loop-i-again c =

@@ -26,9 +26,11 @@ step c =
     let q : (c .args .at + 8 * k) + 4 ≡ (c .args .at + 4) + 8 * k = omega arith in
     let p : c .item-at .result .price ≡ four bs (c .args .at + 8 * k) = c .item-at .ensures .price in
     let b : c .item-at .result .band ≡ four bs ((c .args .at + 4) + 8 * k) = c .item-at .ensures .band ∙ ap (λ i. four bs i) q in
-    let f : c .suits .result ≡ one-fits (item-of (getD (c .args .items .now) k blank-item)) (four bs (c .args .at + 8 * k)) (four bs ((c .args .at + 4) + 8 * k)) =
+    let f : c .suits .result ≡ one-fits (item-of (getD (c .args .items .now) k blank-item)) (four bs (c .args .at + 8 * k))
+    (four bs ((c .args .at + 4) + 8 * k)) =
     rw (← p, ← b) (c .suits .ensures) in
-    fit-more bs (c .args .at) (c .args .at + 4) (length (c .args .items .now)) (c .args .items .now) k (c .loop-k-test .taken) (c .loop-k-test .taken) ∙
+    fit-more bs (c .args .at) (c .args .at + 4) (length (c .args .items .now)) (c .args .items .now) k (c .loop-k-test .taken)
+    (c .loop-k-test .taken) ∙
     ap (λ x. x && prices-fit (map item-of (drop (k + 1) (c .args .items .now)))
     (rest bs (c .args .at) (length (c .args .items .now)) (k + 1)) (rest bs (c .args .at + 4) (length (c .args .items .now)) (k + 1))) (sym f)
 
@@ -41,4 +43,5 @@ loop-k-again c = c .loop-k .inv ∙ (rw (c .if-not-suits .left) at (step (need.a
 pub returns : need.returns
 returns c =
     sym (c .loop-k .inv ∙
-    fit-none (c .args .bytes .now) (c .args .at) (c .args .at + 4) (length (c .args .items .now)) (c .args .items .now) (c .loop-k .k) (c .loop-k-test .left) (c .loop-k-test .left))
+    fit-none (c .args .bytes .now) (c .args .at) (c .args .at + 4) (length (c .args .items .now)) (c .args .items .now) (c .loop-k .k)
+    (c .loop-k-test .left) (c .loop-k-test .left))

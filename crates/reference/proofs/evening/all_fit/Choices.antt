@@ -10,4 +10,5 @@ use Rattle.reference.proofs.evening.all_fit.Given as given
 abbrev pub Inv-loop-k : given.InvT-loop-k
 Inv-loop-k l =
     prices-fit (map item-of (l .items)) (column (l .bytes) (l .at) (length (l .items))) (column (l .bytes) (l .at + 4) (length (l .items))) ≡
-    prices-fit (map item-of (drop (l .k) (l .items))) (rest (l .bytes) (l .at) (length (l .items)) (l .k)) (rest (l .bytes) (l .at + 4) (length (l .items)) (l .k))
+    prices-fit (map item-of (drop (l .k) (l .items))) (rest (l .bytes) (l .at) (length (l .items)) (l .k))
+    (rest (l .bytes) (l .at + 4) (length (l .items)) (l .k))

@@ -14,7 +14,9 @@ use Rattle.wire.specs.Means.{column, item-of}
 use Rattle.reference.specs.Means.{world-of, account-of, limits-of}
 use Rattle.reference.proofs.Evenings.{May-end, not-ended, ended}
 use Rattle.reference.proofs.evening.end_day.Needs as need
-use Rattle.reference.proofs.evening.end_day.Needs.{After-all-fit, then-bytes-long·by·then-bytes-long, then-bytes-long·by·else-bytes-long·then-prices-bytes, then-bytes-long·by·else-bytes-long·else-prices-bytes·then-not-market}
+use Rattle.reference.proofs.evening.end_day.Needs.{After-all-fit, then-bytes-long·by·then-bytes-long}
+use Rattle.reference.proofs.evening.end_day.Needs.{then-bytes-long·by·else-bytes-long·then-prices-bytes}
+use Rattle.reference.proofs.evening.end_day.Needs.{then-bytes-long·by·else-bytes-long·else-prices-bytes·then-not-market}
 
 pub mul-long : need.mul-long
 mul-long c = let h = simp length-map at (c .pre .fit .items) in search needs
@@ -24,11 +26,13 @@ returns-then-bytes-long c =
     let m = c .args .market .now in
     let n : length (map item-of (vec-items (m .items))) ≡ vec-len (m .items) = simp length-map (sym (m .items .ok .0)) in
     record {
-      after = λ k. not-ended (limits-of (c .args .limits) k) (world-of m) (c .args .bytes .now) (length (world-of m .items)) (c .args .prices) (c .pre .fit .some)
+      after = λ k. not-ended (limits-of (c .args .limits) k) (world-of m) (c .args .bytes .now) (length (world-of m .items)) (c .args .prices)
+          (c .pre .fit .some)
           (λ h. let a = h .0 in let b = h .1 in
           elim (c .then-bytes-long .came) [
             | then-bytes-long·by·then-bytes-long w ↦ omega (arith, w .if-bytes-long .taken, c .len-long .ensures)
-            | then-bytes-long·by·else-bytes-long·then-prices-bytes w ↦ omega (arith, w .if-prices-bytes .taken, w .if-bytes-long .left, c .len-long .ensures)
+            | then-bytes-long·by·else-bytes-long·then-prices-bytes w ↦ omega
+                (arith, w .if-prices-bytes .taken, w .if-bytes-long .left, c .len-long .ensures)
             | then-bytes-long·by·else-bytes-long·else-prices-bytes·then-not-market w ↦ false≢true (sym (w .if-not-market .taken) ∙ b)
           ]);
       room = search needs;
@@ -36,19 +40,22 @@ returns-then-bytes-long c =
 
 -- the test of the prices, in the plain market's words
 tested : (c : need.After-all-fit) → c .all-fit .result ≡
-    world.prices-fit (world-of (c .args .market .now) .items) (column (c .args .bytes .now) (c .args .prices) (length (world-of (c .args .market .now) .items)))
+    world.prices-fit (world-of (c .args .market .now) .items)
+    (column (c .args .bytes .now) (c .args .prices) (length (world-of (c .args .market .now) .items)))
     (column (c .args .bytes .now) (c .args .prices + 4) (length (world-of (c .args .market .now) .items)))
 tested c =
     let bs = c .args .bytes .now in
     c .all-fit .ensures ∙
-    ap (λ xs. world.prices-fit (map item-of xs) (column bs (c .args .prices) (length xs)) (column bs (c .args .prices + 4) (length xs))) (c .deref .ensures .value) ∙
+    ap (λ xs. world.prices-fit (map item-of xs) (column bs (c .args .prices) (length xs)) (column bs (c .args .prices + 4) (length xs)))
+    (c .deref .ensures .value) ∙
     simp length-map
 
 pub returns-then-not-all-fit : need.returns-then-not-all-fit
 returns-then-not-all-fit c =
     let m = c .args .market .now in
     record {
-      after = λ k. not-ended (limits-of (c .args .limits) k) (world-of m) (c .args .bytes .now) (length (world-of m .items)) (c .args .prices) (c .pre .fit .some)
+      after = λ k. not-ended (limits-of (c .args .limits) k) (world-of m) (c .args .bytes .now) (length (world-of m .items)) (c .args .prices)
+          (c .pre .fit .some)
           (λ h. false≢true (sym (c .if-not-all-fit .taken) ∙ tested (need.at·returns-then-not-all-fit c .After-all-fit) ∙ h .2));
       room = search needs;
     }
@@ -59,7 +66,8 @@ settle-requires c κs =
     let m = c .args .market .now in
     let d = c .deref-2 .ensures .value in
     let few = simp length-map at (c .pre .fit .items) in
-    let fit : prices-fit (world-of m .items) (column (c .args .bytes .now) (c .args .prices) (length (world-of m .items))) (column (c .args .bytes .now) (c .args .prices + 4) (length (world-of m .items))) ≡ true =
+    let fit : prices-fit (world-of m .items) (column (c .args .bytes .now) (c .args .prices) (length (world-of m .items)))
+    (column (c .args .bytes .now) (c .args .prices + 4) (length (world-of m .items))) ≡ true =
     sym (tested (need.at·settle-requires c .After-all-fit)) ∙ c .if-not-all-fit .left in
     let in-row : (a : ℕ) → a < vec-len (m .accounts) → a < length (world-of m .accounts) = λ a h. simp length-map (search needs) in
     record {
@@ -81,7 +89,8 @@ returns c =
     let paid : map account-of (vec-items (c .settle .last .accounts)) ≡
     world.paid (world-of m .items) (column bs (c .args .prices) (length (world-of m .items))) (world-of m .accounts) =
     c .settle .ensures ∙
-    ap (λ xs. world.paid (map item-of xs) (column bs (c .args .prices) (length xs)) (world-of m .accounts)) (c .deref-2 .ensures .value) ∙ simp length-map in
+    ap (λ xs. world.paid (map item-of xs) (column bs (c .args .prices) (length xs)) (world-of m .accounts)) (c .deref-2 .ensures .value) ∙ simp
+    length-map in
     let inside : c .args .prices + 8 * length (world-of m .items) ≤ length bs = omega (arith, n, c .len-long .ensures) in
     record {
       after = λ k.

@@ -37,14 +37,18 @@ step c =
     read-map held-of (vec-items (c .args .account .now .positions)) k (c .index .result .now) (pos 0) in-row (c .index .ensures) in
     let b : toZ w64 (ofZ w64 (c .index .result .now .held)) ≡ c .index .result .now .held = search (needs, toZ-ofZ) in
     let p : c .item-at-new .result .price ≡ four bs (c .args .at + 8 * k) = c .item-at-new .ensures .price in
-    let v : c .change-sum .result ≡ held (account-of (c .args .account .now)) k *ℤ (pos (four bs (c .args .at + 8 * k)) -ℤ pos (getD (c .args .items .now) k blank-item .price)) = cc in
-    gain-more bs (c .args .at) (c .args .at) (length (c .args .items .now)) (c .args .items .now) k (account-of (c .args .account .now)) (c .loop-k-test .taken) (c .loop-k-test .taken) ∙
-    ap (λ d. d +ℤ world.gain (k + 1) (map item-of (drop (k + 1) (c .args .items .now))) (rest bs (c .args .at) (length (c .args .items .now)) (k + 1)) (account-of (c .args .account .now))) (sym v)
+    let v : c .change-sum .result ≡ held (account-of (c .args .account .now)) k *ℤ
+    (pos (four bs (c .args .at + 8 * k)) -ℤ pos (getD (c .args .items .now) k blank-item .price)) = cc in
+    gain-more bs (c .args .at) (c .args .at) (length (c .args .items .now)) (c .args .items .now) k (account-of (c .args .account .now))
+    (c .loop-k-test .taken) (c .loop-k-test .taken) ∙
+    ap (λ d. d +ℤ world.gain (k + 1) (map item-of (drop (k + 1) (c .args .items .now)))
+    (rest bs (c .args .at) (length (c .args .items .now)) (k + 1)) (account-of (c .args .account .now))) (sym v)
 
 pub loop-k-again : need.loop-k-again
 loop-k-again c = let e = step (need.at·loop-k-again c .After-change-sum) in (omega (arith, ints), (omega (arith, ints), omega (arith, ints)))
 
 pub returns : need.returns
 returns c =
-    let e = gain-none (c .args .bytes .now) (c .args .at) (c .args .at) (length (c .args .items .now)) (c .args .items .now) (c .loop-k .k) (account-of (c .args .account .now)) (c .loop-k-test .left) in
+    let e = gain-none (c .args .bytes .now) (c .args .at) (c .args .at) (length (c .args .items .now)) (c .args .items .now) (c .loop-k .k)
+    (account-of (c .args .account .now)) (c .loop-k-test .left) in
     record { value = omega (arith, ints); bound = (omega (arith, ints), omega (arith, ints)) }

@@ -15,8 +15,11 @@ use Rattle.reference.proofs.Settled.{length-new, new-at}
 use Rattle.reference.proofs.evening.renew.Needs as need
 
 pub loop-k-holds : need.loop-k-holds
-loop-k-holds c =
-    (refill-none (new-items (column (c .args .bytes .now) (c .args .at) (vec-len (c .args .items .now))) (column (c .args .bytes .now) (c .args .at + 4) (vec-len (c .args .items .now)))) (map item-of (vec-items (c .args .items .now))), refl)
+loop-k-holds c = (
+  refill-none (new-items (column (c .args .bytes .now) (c .args .at) (vec-len (c .args .items .now)))
+      (column (c .args .bytes .now) (c .args .at + 4) (vec-len (c .args .items .now)))) (map item-of (vec-items (c .args .items .now))),
+  refl,
+)
 
 pub loop-k-again : need.loop-k-again
 loop-k-again c =
@@ -30,7 +33,8 @@ loop-k-again c =
     let b : c .item-at .result .band ≡ four bs ((at + 4) + 8 * k) = c .item-at .ensures .band ∙ ap (λ i. four bs i) q in
     let is : item-of (c .item-at .result) ≡ getD (new-items (column bs at n) (column bs (at + 4) n)) k no-item =
     rw (new-at bs at (at + 4) n k lt, ← c .item-at .ensures .price, ← b) in (
-      refill-step item-of (vec-items (c .loop-k .items)) (new-items (column bs at n) (column bs (at + 4) n)) (map item-of (vec-items (c .args .items .now)))
+      refill-step item-of (vec-items (c .loop-k .items)) (new-items (column bs at n) (column bs (at + 4) n))
+          (map item-of (vec-items (c .args .items .now)))
           k (c .item-at .result) no-item (c .loop-k .inv .0) (length-new bs at (at + 4) n ∙ many) (omega arith) is,
       c .loop-k .inv .1,
     )

@@ -13,7 +13,8 @@ use Rattle.std.specs.Of.Vec.{vec-items, vec-len}
 use Rattle.venue.specs.World as world
 use Rattle.venue.specs.World.{paid, nobody}
 use Rattle.wire.specs.Means.{column, item-of}
-use Rattle.reference.specs.Means.{account-of, Within}
+use Rattle.reference.specs.Means.{account-of}
+use Rattle.reference.specs.Conditions.{Within}
 use Rattle.reference.specs.declared.market.Account.{Account}
 use Rattle.reference.proofs.Places.{read-map}
 use Rattle.reference.proofs.Products.{account-same}
@@ -32,7 +33,8 @@ old c x r =
     let l : c .loop-a .a < length (map account-of (vec-items (c .args .accounts .now))) = simp length-map (search needs) in
     sym (read-map account-of (vec-items (c .loop-a .accounts)) (c .loop-a .a) x nobody h r) ∙
     ap (λ ys. getD ys (c .loop-a .a) nobody) (c .loop-a .inv .0) ∙
-    refill-old new xs (c .loop-a .a) nobody (length-paid (map item-of (c .args .items .now)) (column (c .args .bytes .now) (c .args .at) (length (c .args .items .now))) xs) l
+    refill-old new xs (c .loop-a .a) nobody (length-paid (map item-of (c .args .items .now))
+    (column (c .args .bytes .now) (c .args .at) (length (c .args .items .now))) xs) l
 
 pub gain-gain-requires : need.gain-gain-requires
 gain-gain-requires c κs =
@@ -44,7 +46,8 @@ gain-gain-requires c κs =
 sum : (c : need.After-from) →
     (toZ w128 (ofZ w128 (toZ w128 (ofZ w128 (c .from .result)) +ℤ toZ w128 (ofZ w128 (c .gain-gain .result)))) ≡
     getD (map account-of (vec-items (c .args .accounts .now))) (c .loop-a .a) nobody .cash
-    +ℤ world.gain 0 (map item-of (c .args .items .now)) (column (c .args .bytes .now) (c .args .at) (length (c .args .items .now))) (getD (map account-of (vec-items (c .args .accounts .now))) (c .loop-a .a) nobody))
+    +ℤ world.gain 0 (map item-of (c .args .items .now)) (column (c .args .bytes .now) (c .args .at) (length (c .args .items .now)))
+    (getD (map account-of (vec-items (c .args .accounts .now))) (c .loop-a .a) nobody))
     × Within 1125899906842624 (toZ w128 (ofZ w128 (toZ w128 (ofZ w128 (c .from .result)) +ℤ toZ w128 (ofZ w128 (c .gain-gain .result)))))
 sum c =
     let b = need.at·After-from c .After-index in
@@ -52,8 +55,10 @@ sum c =
     let o = old b (c .index .result .now) (c .index .ensures) in
     let q = ap (λ y. y .cash) (old b (c .index-in-loop-a .result .now) (c .index-in-loop-a .ensures)) in
     let g : c .gain-gain .result ≡
-    world.gain 0 (map item-of (c .args .items .now)) (column (c .args .bytes .now) (c .args .at) (length (c .args .items .now))) (getD (map account-of (vec-items (c .args .accounts .now))) (c .loop-a .a) nobody) =
-    c .gain-gain .ensures .value ∙ ap (λ y. world.gain 0 (map item-of (c .args .items .now)) (column (c .args .bytes .now) (c .args .at) (length (c .args .items .now))) y) o in
+    world.gain 0 (map item-of (c .args .items .now)) (column (c .args .bytes .now) (c .args .at) (length (c .args .items .now)))
+    (getD (map account-of (vec-items (c .args .accounts .now))) (c .loop-a .a) nobody) =
+    c .gain-gain .ensures .value ∙ ap (λ y. world.gain 0 (map item-of (c .args .items .now))
+    (column (c .args .bytes .now) (c .args .at) (length (c .args .items .now))) y) o in
     let w = c .pre .fits (c .loop-a .a) (omega (arith, c .len-a-end .ensures)) in
     (omega (arith, ints), (omega (arith, ints), omega (arith, ints)))
 
@@ -68,7 +73,8 @@ loop-a-again c =
     let long = length-paid (map item-of (c .args .items .now)) (column (c .args .bytes .now) (c .args .at) (length (c .args .items .now))) xs in
     let l : c .loop-a .a < length (map account-of (vec-items (c .args .accounts .now))) = simp length-map (search needs) in
     let m = old (need.at·loop-a-again c .After-index) (c .index-mut .result .now) (c .index-mut .ensures .value) in
-    let p = paid-at (map item-of (c .args .items .now)) (column (c .args .bytes .now) (c .args .at) (length (c .args .items .now))) xs (c .loop-a .a) l in
+    let p = paid-at (map item-of (c .args .items .now)) (column (c .args .bytes .now) (c .args .at) (length (c .args .items .now))) xs (c .loop-a .a)
+    l in
     let low = s .1 in
     let cash : toZ w64 (ofZ w64 (toZ w128 (ofZ w128 (toZ w128 (ofZ w128 (c .from .result)) +ℤ toZ w128 (ofZ w128 (c .gain-gain .result)))))) ≡
     toZ w128 (ofZ w128 (toZ w128 (ofZ w128 (c .from .result)) +ℤ toZ w128 (ofZ w128 (c .gain-gain .result)))) = omega (arith, ints) in (
@@ -79,8 +85,10 @@ loop-a-again c =
 
 pub returns : need.returns
 returns c =
-    let many : vec-len (c .args .accounts .now) ≡ length (map account-of (vec-items (c .args .accounts .now))) = simp length-map (c .args .accounts .now .ok .0) in
+    let many : vec-len (c .args .accounts .now) ≡ length (map account-of (vec-items (c .args .accounts .now))) = simp length-map
+    (c .args .accounts .now .ok .0) in
     c .loop-a .inv .0 ∙
-    refill-all (paid (map item-of (c .args .items .now)) (column (c .args .bytes .now) (c .args .at) (length (c .args .items .now))) (map account-of (vec-items (c .args .accounts .now))))
+    refill-all (paid (map item-of (c .args .items .now)) (column (c .args .bytes .now) (c .args .at) (length (c .args .items .now)))
+    (map account-of (vec-items (c .args .accounts .now))))
     (map account-of (vec-items (c .args .accounts .now))) (c .loop-a .a)
     (length-paid _ _ (map account-of (vec-items (c .args .accounts .now)))) (omega (arith, c .len-a-end .ensures))

@@ -10,8 +10,11 @@ use Rattle.std.specs.Of.Vec.{vec-items, vec-len, vec-cap}
 use Rattle.venue.specs.World as world
 use Rattle.venue.specs.World.{best, no-order, less-left, lesser, with-orders}
 use Rattle.wire.specs.Means.{report-of}
-use Rattle.reference.specs.Means.{order-of, world-of, after, filled, first-of, Filling}
-use Rattle.reference.proofs.Fills.{Ready, ready, fills-on, filled-done, filled-stands, filled-trades, after-none, after-more, after-one, lesser-low, lesser-high}
+use Rattle.reference.specs.Means.{order-of, world-of}
+use Rattle.reference.specs.Conditions.{Filling}
+use Rattle.reference.specs.Parts.{after, filled, first-of}
+use Rattle.reference.proofs.Fills.{Ready, ready, fills-on, filled-done, filled-stands, filled-trades, after-none, after-more, after-one, lesser-low}
+use Rattle.reference.proofs.Fills.{lesser-high}
 use Rattle.reference.proofs.Orders.{best-more, best-none, best-front}
 use Rattle.reference.proofs.Places.{read-map}
 use Rattle.reference.proofs.filling.fill.Needs as need
@@ -42,7 +45,8 @@ stepped c =
     let os = world-of (c .loop-i .market) .orders in
     let s : c .loop-i .i ≡ suc (c .loop-i .i - 1) = omega arith in
     let f : c .comes-before .result ≡ first-of (order-of (c .filling .o)) (world-of (c .loop-i .market) .orders) (c .loop-i .i - 1) (c .loop-i .at) =
-    c .comes-before .ensures ∙ ap (λ xs. first-of (order-of (c .filling .o)) (map order-of xs) (c .loop-i .i - 1) (c .loop-i .at)) (c .deref .ensures .value) in
+    c .comes-before .ensures ∙ ap (λ xs. first-of (order-of (c .filling .o)) (map order-of xs) (c .loop-i .i - 1) (c .loop-i .at))
+    (c .deref .ensures .value) in
     let e = subst (λ i. c .loop-i .at ≡ i + best (order-of (c .filling .o)) (drop i (world-of (c .loop-i .market) .orders))) s (c .loop-i .inv .0) in
     rw f (best-more (order-of (c .filling .o)) os (c .loop-i .i - 1) (c .loop-i .at) (omega (arith, c .loop-i .inv .2)) (c .loop-i .inv .1) e)
 
@@ -83,7 +87,8 @@ met c =
     let t : c .loop-i .at < length (world-of (c .loop-i .market) .orders) = simp length-map h in
     let r = sym (read-map order-of (vec-items (c .loop-i .market .orders)) (c .loop-i .at) (c .index .result .now) no-order h (c .index .ensures)) in
     let f = subst (λ m. Filling (world-of m) (order-of (c .filling .o)) (vec-cap (m .orders))) (sym (c .loop-i .inv .3)) (c .filling .inv .1) in
-    let b = best-front (order-of (c .filling .o)) (world-of (c .loop-i .market) .orders) (c .loop-i .i) (c .loop-i .at) (c .loop-i .inv .0) (c .if-i-eq0 .taken) in
+    let b = best-front (order-of (c .filling .o)) (world-of (c .loop-i .market) .orders) (c .loop-i .i) (c .loop-i .at) (c .loop-i .inv .0)
+    (c .if-i-eq0 .taken) in
     record {
       best-is = b;
       there = t;
@@ -116,21 +121,26 @@ trade-requires c κs =
 -- the turn: what was reported and what is to come, before and after
 record Turned (c : need.After-trade) : Type 0 where
   is : filled (world-of (c .loop-i .market)) (order-of (c .filling .o)) ≡
-      after (world.trade (c .filling .o .number) (c .index .result .now .number) (c .filling .o .item) (c .index .result .now .price) (c .if-o-r .x) ∷ [])
+      after (world.trade (c .filling .o .number) (c .index .result .now .number) (c .filling .o .item) (c .index .result .now .price) (c .if-o-r .x)
+      ∷ [])
       (filled (world-of (c .trade .last .market)) (less-left (order-of (c .filling .o)) (c .if-o-r .x)))
   goes : Filling (world-of (c .trade .last .market)) (less-left (order-of (c .filling .o)) (c .if-o-r .x)) (vec-cap (c .trade .last .market .orders))
   less : (1 ≤ c .if-o-r .x) × (c .if-o-r .x ≤ c .filling .o .left)
-  room : vec-len (c .filling .reports) + suc (length (filled (world-of (c .trade .last .market)) (less-left (order-of (c .filling .o)) (c .if-o-r .x)) .1)) ≤ vec-cap (c .filling .reports)
+  room : vec-len (c .filling .reports) + suc (length (filled (world-of (c .trade .last .market))
+      (less-left (order-of (c .filling .o)) (c .if-o-r .x)) .1)) ≤ vec-cap (c .filling .reports)
 
 traded-on : (c : need.After-trade) →
     filled (world-of (c .loop-i .market)) (order-of (c .filling .o)) ≡
-    after (world.trade (c .filling .o .number) (c .index .result .now .number) (c .filling .o .item) (c .index .result .now .price) (c .if-o-r .x) ∷ [])
+    after (world.trade (c .filling .o .number) (c .index .result .now .number) (c .filling .o .item) (c .index .result .now .price) (c .if-o-r .x) ∷
+    [])
     (filled (world-of (c .trade .last .market)) (less-left (order-of (c .filling .o)) (c .if-o-r .x)))
 traded-on c =
     let m = met (need.at·After-trade c .After-index) in
     let o = order-of (c .filling .o) in
-    filled-trades (world-of (c .loop-i .market)) o (order-of (c .index .result .now)) (c .loop-i .at) (c .if-o-r .x) (c .filling-test .taken) (m .best-is) (m .there) (m .is) (part c) ∙
-    ap (λ v. after (world.trade (c .filling .o .number) (c .index .result .now .number) (c .filling .o .item) (c .index .result .now .price) (c .if-o-r .x) ∷ [])
+    filled-trades (world-of (c .loop-i .market)) o (order-of (c .index .result .now)) (c .loop-i .at) (c .if-o-r .x) (c .filling-test .taken)
+    (m .best-is) (m .there) (m .is) (part c) ∙
+    ap (λ v. after (world.trade (c .filling .o .number) (c .index .result .now .number) (c .filling .o .item) (c .index .result .now .price)
+    (c .if-o-r .x) ∷ [])
     (filled v (less-left o (c .if-o-r .x)))) (sym (c .trade .ensures .after))
 
 turned : (c : need.After-trade) → Turned c
@@ -142,14 +152,17 @@ turned c =
     let x = part c in
     let t = traded-on c in
     let e = ap (λ p. length (p .1)) t in
-    let n = after-one (world.trade (c .filling .o .number) (c .index .result .now .number) (c .filling .o .item) (c .index .result .now .price) (c .if-o-r .x))
+    let n = after-one (world.trade (c .filling .o .number) (c .index .result .now .number) (c .filling .o .item) (c .index .result .now .price)
+    (c .if-o-r .x))
     (filled (world-of (c .trade .last .market)) (less-left o (c .if-o-r .x))) in
-    let k = subst (λ s. vec-len (c .filling .reports) + length (filled (world-of s) o .1) ≤ vec-cap (c .filling .reports)) (sym (c .loop-i .inv .3)) (c .filling .inv .2) in
+    let k = subst (λ s. vec-len (c .filling .reports) + length (filled (world-of s) o .1) ≤ vec-cap (c .filling .reports)) (sym (c .loop-i .inv .3))
+    (c .filling .inv .2) in
     record {
       is = t;
       room = omega arith;
       goes = subst (λ k. Filling (world-of (c .trade .last .market)) (less-left o (c .if-o-r .x)) k) (sym (c .trade .ensures .room))
-          (fills-on w (world-of (c .trade .last .market)) o r (c .loop-i .at) (c .if-o-r .x) (vec-cap (c .loop-i .market .orders)) (m .filling) (m .best-is) (m .there) (m .is) x (c .trade .ensures .after));
+          (fills-on w (world-of (c .trade .last .market)) o r (c .loop-i .at) (c .if-o-r .x) (vec-cap (c .loop-i .market .orders)) (m .filling)
+          (m .best-is) (m .there) (m .is) x (c .trade .ensures .after));
       less = (grind (arith, tells), grind (arith, tells));
     }
 
@@ -165,12 +178,14 @@ filling-again c =
     let t = turned (need.at·filling-again c .After-trade) in
     let rs = map report-of (vec-items (c .filling .reports)) in
     let p : map report-of (vec-items (c .push-reserved .last .self)) ≡
-    map report-of (vec-items (c .filling .reports)) ++ world.trade (c .filling .o .number) (c .index .result .now .number) (c .filling .o .item) (c .index .result .now .price) (c .if-o-r .x) ∷ [] =
+    map report-of (vec-items (c .filling .reports)) ++ world.trade (c .filling .o .number) (c .index .result .now .number) (c .filling .o .item)
+    (c .index .result .now .price) (c .if-o-r .x) ∷ [] =
     ap (map report-of) (c .push-reserved .ensures .items) ∙ map-push report-of (vec-items (c .filling .reports)) _ in
     let s : after (map report-of (vec-items (c .filling .reports))) (filled (world-of (c .loop-i .market)) (order-of (c .filling .o))) ≡
     after (map report-of (vec-items (c .args .reports .now))) (filled (world-of (c .args .market .now)) (order-of (c .args .order))) =
     subst (λ m. after (map report-of (vec-items (c .filling .reports))) (filled (world-of m) (order-of (c .filling .o))) ≡
-    after (map report-of (vec-items (c .args .reports .now))) (filled (world-of (c .args .market .now)) (order-of (c .args .order)))) (sym (c .loop-i .inv .3)) (c .filling .inv .0) in (
+    after (map report-of (vec-items (c .args .reports .now))) (filled (world-of (c .args .market .now)) (order-of (c .args .order))))
+    (sym (c .loop-i .inv .3)) (c .filling .inv .0) in (
       rw (p, ← after-more, ← t .is) s,
       t .goes,
       omega (arith, t .room, c .push-reserved .ensures .len, c .push-reserved .ensures .capacity),
@@ -192,11 +207,14 @@ returns-then-at-n c =
     let o = order-of (c .filling .o) in
     let b = best-front o (world-of (c .loop-i .market) .orders) (c .loop-i .i) (c .loop-i .at) (c .loop-i .inv .0) (c .if-i-eq0 .taken) in
     let n : c .len-n .result ≡ vec-len (c .loop-i .market .orders) = c .len-n .ensures ∙ ap (λ m. vec-len (m .orders)) (sym (c .loop-i .inv .3)) in
-    let l : length (world-of (c .loop-i .market) .orders) ≤ best o (world-of (c .loop-i .market) .orders) = simp length-map (omega (arith, c .loop-i .market .orders .ok .0)) in
+    let l : length (world-of (c .loop-i .market) .orders) ≤ best o (world-of (c .loop-i .market) .orders) = simp length-map
+    (omega (arith, c .loop-i .market .orders .ok .0)) in
     let f = filled-stands w o (c .filling-test .taken) l in
     let s = subst (λ m. after (map report-of (vec-items (c .filling .reports))) (filled (world-of m) (order-of (c .filling .o))) ≡
-    after (map report-of (vec-items (c .args .reports .now))) (filled (world-of (c .args .market .now)) (order-of (c .args .order)))) (sym (c .loop-i .inv .3)) (c .filling .inv .0) in
+    after (map report-of (vec-items (c .args .reports .now))) (filled (world-of (c .args .market .now)) (order-of (c .args .order))))
+    (sym (c .loop-i .inv .3)) (c .filling .inv .0) in
     record {
-      after = rw (c .stand .ensures .after) (sym (after-none (map report-of (vec-items (c .filling .reports))) (with-orders w (w .orders ++ o ∷ []))) ∙ (rw f at s));
+      after = rw (c .stand .ensures .after) (sym (after-none (map report-of (vec-items (c .filling .reports))) (with-orders w (w .orders ++ o ∷ [])))
+          ∙ (rw f at s));
       room = (c .stand .ensures .room ∙ ap (λ m. vec-cap (m .orders)) (c .loop-i .inv .3) ∙ c .filling .inv .3, c .filling .inv .4);
     }

@@ -5,7 +5,9 @@ use lib.ListN.{length, drop}
 use Rattle.std.specs.Of.Vec.{vec-items, vec-len, vec-cap}
 use Rattle.venue.specs.World.{best}
 use Rattle.wire.specs.Means.{report-of}
-use Rattle.reference.specs.Means.{order-of, world-of, after, filled, Filling}
+use Rattle.reference.specs.Means.{order-of, world-of}
+use Rattle.reference.specs.Conditions.{Filling}
+use Rattle.reference.specs.Parts.{after, filled}
 use Rattle.reference.proofs.filling.fill.Given as given
 
 -- `at` is the best of the orders from place i on, or past the end

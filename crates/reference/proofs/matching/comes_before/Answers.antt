@@ -9,7 +9,8 @@ use lib.ListN.{length, getD}
 use Rattle.std.proofs.shelf.Lists.{getD-map, length-map}
 use Rattle.std.proofs.shelf.Tests.{lt-ltb, le-ltb}
 use Rattle.venue.specs.World.{meets, better, no-order}
-use Rattle.reference.specs.Means.{order-of, first-of}
+use Rattle.reference.specs.Means.{order-of}
+use Rattle.reference.specs.Parts.{first-of}
 use Rattle.reference.proofs.Places.{blank-order}
 use Rattle.reference.proofs.matching.comes_before.Needs as need
 use Rattle.reference.proofs.matching.comes_before.Needs.{After-meets, then-at-orders, else-at-orders}
@@ -31,7 +32,8 @@ returns-after-at-orders c =
           let h : c .args .at < length (c .args .orders .now) = w .if-at-orders .taken in
           let j = getD-map order-of (c .args .orders .now) (c .args .at) blank-order no-order h in
           rw (m, i, j, length-map, lt-ltb (c .args .at) (length (c .args .orders .now)) h) (ap not (w .result-is ∙ w .better .ensures))
-      | else-at-orders w ↦ rw (m, length-map, le-ltb (c .args .at) (length (c .args .orders .now)) (w .if-at-orders .left)) (ap not (w .result-is ∙ le-ltb (c .args .at) (length (c .args .orders .now)) (w .if-at-orders .left)))
+      | else-at-orders w ↦ rw (m, length-map, le-ltb (c .args .at) (length (c .args .orders .now)) (w .if-at-orders .left))
+          (ap not (w .result-is ∙ le-ltb (c .args .at) (length (c .args .orders .now)) (w .if-at-orders .left)))
     ]
 
 pub returns-else-meets : need.returns-else-meets

@@ -8,7 +8,8 @@ use Rattle.std.proofs.shelf.Lists.{map-push}
 use Rattle.std.specs.Of.Vec.{vec-items, vec-len, vec-cap}
 use Rattle.venue.specs.World as world
 use Rattle.wire.specs.Means.{report-of}
-use Rattle.reference.specs.Means.{world-of, limits-of, after}
+use Rattle.reference.specs.Means.{world-of, limits-of}
+use Rattle.reference.specs.Parts.{after}
 use Rattle.reference.proofs.Fills.{after-more, after-one}
 use Rattle.reference.proofs.Mornings.{not-begun, begun, opened, after-opened}
 use Rattle.reference.proofs.morning.begin_day.Needs as need
@@ -32,7 +33,8 @@ returns-then-market c =
 
 -- there is room for all reports
 roomy : (c : need.Else-market) →
-    vec-len (c .args .reports .now) + suc (length (world.tear-all (length (world-of (c .args .market .now) .accounts)) 0 (world-of (c .args .market .now)) .1)) ≤ vec-cap (c .args .reports .now)
+    vec-len (c .args .reports .now) + suc (length (world.tear-all (length (world-of (c .args .market .now) .accounts)) 0
+    (world-of (c .args .market .now)) .1)) ≤ vec-cap (c .args .reports .now)
 roomy c =
     let w = world-of (c .args .market .now) in
     let t = opened (world.tear-all (length (w .accounts)) 0 w) in

@@ -15,8 +15,10 @@ use Rattle.reference.proofs.morning.smaller.Needs.{After-traded-size}
 -- the size, and that it is small
 size : (c : need.After-traded-size) → (c .traded-size .result ≡ lesser (abs (c .args .h)) (abs (c .args .g))) × (c .traded-size .result ≤ 2147483648)
 size c =
-    let a : c .unsigned-abs .result ≡ abs (c .args .h) = c .unsigned-abs .ensures .value ∙ ap natAbs (toZ-ofZ w64 (c .args .h) (c .fits .h)) ∙ sym (abs-is (c .args .h)) in
-    let b : c .unsigned-abs-2 .result ≡ abs (c .args .g) = c .unsigned-abs-2 .ensures .value ∙ ap natAbs (toZ-ofZ w64 (c .args .g) (c .fits .g)) ∙ sym (abs-is (c .args .g)) in
+    let a : c .unsigned-abs .result ≡ abs (c .args .h) = c .unsigned-abs .ensures .value ∙ ap natAbs (toZ-ofZ w64 (c .args .h) (c .fits .h)) ∙ sym
+    (abs-is (c .args .h)) in
+    let b : c .unsigned-abs-2 .result ≡ abs (c .args .g) = c .unsigned-abs-2 .ensures .value ∙ ap natAbs (toZ-ofZ w64 (c .args .g) (c .fits .g)) ∙
+    sym (abs-is (c .args .g)) in
     let l : c .traded-size .result ≤ c .unsigned-abs .result = grind (arith, tells) in
     let m : c .unsigned-abs .result ≤ 2147483648 = omega (arith, ints, c .unsigned-abs .ensures .value, c .pre .small .0 .0, c .pre .small .0 .1) in
     (rw (← a, ← b) (c .traded-size .ensures), omega arith)

@@ -5,7 +5,8 @@ use lib.ListN.{length}
 use Rattle.std.specs.Of.Vec.{vec-items}
 use Rattle.venue.specs.World as world
 use Rattle.wire.specs.Means.{report-of}
-use Rattle.reference.specs.Means.{world-of, torn-account}
+use Rattle.reference.specs.Means.{world-of}
+use Rattle.reference.specs.Parts.{torn-account}
 use Rattle.reference.proofs.Fills.{after-none}
 use Rattle.reference.proofs.UnderWay.{morning-fit}
 use Rattle.reference.proofs.morning.tear_account.Needs as need
@@ -29,4 +30,8 @@ pub returns-else-not-covers : need.returns-else-not-covers
 unfolding torn-account
 returns-else-not-covers c =
     let e = sym (c .covers .ensures) ∙ c .if-not-covers .left in
-    record { after = rw e (sym (after-none (map report-of (vec-items (c .args .reports .now))) (world-of (c .args .market .now)))); room = (refl, refl) }
+    record {
+      after = rw e (sym (after-none (map report-of (vec-items (c .args .reports .now))) (world-of (c .args .market .now))));
+      room =
+          (refl, refl);
+    }

@@ -5,7 +5,8 @@ use Prim.Native.Nat.{_+_, _-_, _<_, _≤_}
 use lib.ListN.{length}
 use Rattle.std.proofs.shelf.Lists.{length-map}
 use Rattle.venue.specs.World as world
-use Rattle.reference.specs.Means.{world-of, torn-account, torn-one}
+use Rattle.reference.specs.Means.{world-of}
+use Rattle.reference.specs.Parts.{torn-account, torn-one}
 use Rattle.reference.proofs.UnderWay.{Onward, Under-way, begins, ends, goes-on, step-room, all-from, onward-account, all-end}
 use Rattle.reference.proofs.morning.tear_all.Needs as need
 
@@ -13,7 +14,8 @@ pub loop-a-holds : need.loop-a-holds
 loop-a-holds c =
     let n = (length (world-of (c .args .market .now) .accounts)) in
     let e : (length (world-of (c .args .market .now) .accounts)) - 0 ≡ (length (world-of (c .args .market .now) .accounts)) = omega arith in
-    rw e (begins (world.tear-all (length (world-of (c .args .market .now) .accounts)) 0 (world-of (c .args .market .now))) (c .args .market .now) (c .args .reports .now) (c .pre .morning .0) (c .pre .room))
+    rw e (begins (world.tear-all (length (world-of (c .args .market .now) .accounts)) 0 (world-of (c .args .market .now))) (c .args .market .now)
+    (c .args .reports .now) (c .pre .morning .0) (c .pre .room))
 
 pub cast-a : need.cast-a
 cast-a c = let g = simp length-map at (c .pre .morning .1 .accounts) in search needs
@@ -26,8 +28,20 @@ tear-account-requires c κs =
     let i = o .items in
     record {
       here = omega arith;
-      morning = (o .morning, (record { some = omega (arith, c .pre .morning .1 .some); items = omega (arith, c .pre .morning .1 .items); accounts = omega (arith, c .pre .morning .1 .accounts) }));
-      room = step-room (world.tear-all (length (world-of (c .args .market .now) .accounts)) 0 (world-of (c .args .market .now))) (world.tear-all ((length (world-of (c .args .market .now) .accounts)) - c .loop-a .a) (c .loop-a .a) (world-of (c .loop-a .market))) (torn-account (world-of (c .loop-a .market)) (c .loop-a .a)) (λ v. world.tear-all ((length (world-of (c .args .market .now) .accounts)) - (c .loop-a .a + 1)) (c .loop-a .a + 1) v) (c .loop-a .market) (c .args .market .now) (c .loop-a .market) (c .loop-a .reports) (c .args .reports .now) (c .loop-a .reports)
+      morning = (
+        o .morning,
+        (record {
+          some = omega (arith, c .pre .morning .1 .some);
+          items = omega (arith, c .pre .morning .1 .items);
+          accounts =
+              omega (arith, c .pre .morning .1 .accounts);
+        }),
+      );
+      room = step-room (world.tear-all (length (world-of (c .args .market .now) .accounts)) 0 (world-of (c .args .market .now)))
+          (world.tear-all ((length (world-of (c .args .market .now) .accounts)) - c .loop-a .a) (c .loop-a .a) (world-of (c .loop-a .market)))
+          (torn-account (world-of (c .loop-a .market)) (c .loop-a .a))
+          (λ v. world.tear-all ((length (world-of (c .args .market .now) .accounts)) - (c .loop-a .a + 1)) (c .loop-a .a + 1) v) (c .loop-a .market)
+          (c .args .market .now) (c .loop-a .market) (c .loop-a .reports) (c .args .reports .now) (c .loop-a .reports)
           (c .loop-a .inv) (all-from (length (world-of (c .args .market .now) .accounts)) (c .loop-a .a) (world-of (c .loop-a .market)) l);
     }
 
@@ -37,8 +51,13 @@ loop-a-again c =
     let l : c .loop-a .a < (length (world-of (c .args .market .now) .accounts)) = simp length-map (search needs) in
     let a = o .accounts in
     let i = o .items in
-    goes-on (world.tear-all (length (world-of (c .args .market .now) .accounts)) 0 (world-of (c .args .market .now))) (world.tear-all ((length (world-of (c .args .market .now) .accounts)) - c .loop-a .a) (c .loop-a .a) (world-of (c .loop-a .market))) (torn-account (world-of (c .loop-a .market)) (c .loop-a .a)) (λ v. world.tear-all ((length (world-of (c .args .market .now) .accounts)) - (c .loop-a .a + 1)) (c .loop-a .a + 1) v) (c .loop-a .market) (c .args .market .now) (c .tear-account .last .market) (c .loop-a .reports) (c .args .reports .now) (c .tear-account .last .reports)
-    (c .loop-a .inv) (all-from (length (world-of (c .args .market .now) .accounts)) (c .loop-a .a) (world-of (c .loop-a .market)) l) (c .tear-account .ensures .after) (onward-account (world-of (c .loop-a .market)) (c .loop-a .a) (o .morning) (omega arith))
+    goes-on (world.tear-all (length (world-of (c .args .market .now) .accounts)) 0 (world-of (c .args .market .now)))
+    (world.tear-all ((length (world-of (c .args .market .now) .accounts)) - c .loop-a .a) (c .loop-a .a) (world-of (c .loop-a .market)))
+    (torn-account (world-of (c .loop-a .market)) (c .loop-a .a))
+    (λ v. world.tear-all ((length (world-of (c .args .market .now) .accounts)) - (c .loop-a .a + 1)) (c .loop-a .a + 1) v) (c .loop-a .market)
+    (c .args .market .now) (c .tear-account .last .market) (c .loop-a .reports) (c .args .reports .now) (c .tear-account .last .reports)
+    (c .loop-a .inv) (all-from (length (world-of (c .args .market .now) .accounts)) (c .loop-a .a) (world-of (c .loop-a .market)) l)
+    (c .tear-account .ensures .after) (onward-account (world-of (c .loop-a .market)) (c .loop-a .a) (o .morning) (omega arith))
     (c .tear-account .ensures .room .0) (c .tear-account .ensures .room .1)
 
 pub returns : need.returns
@@ -47,6 +66,9 @@ returns c =
     let e = all-end (length (world-of (c .args .market .now) .accounts)) (c .loop-a .a) (world-of (c .loop-a .market)) g in
     let i = c .loop-a .inv in
     record {
-      after = ends (world.tear-all (length (world-of (c .args .market .now) .accounts)) 0 (world-of (c .args .market .now))) (c .loop-a .market) (c .args .market .now) (c .loop-a .reports) (c .args .reports .now) (subst (λ r. Under-way (world.tear-all (length (world-of (c .args .market .now) .accounts)) 0 (world-of (c .args .market .now))) r (c .loop-a .market) (c .args .market .now) (c .loop-a .reports) (c .args .reports .now)) e i);
+      after = ends (world.tear-all (length (world-of (c .args .market .now) .accounts)) 0 (world-of (c .args .market .now))) (c .loop-a .market)
+          (c .args .market .now) (c .loop-a .reports) (c .args .reports .now)
+          (subst (λ r. Under-way (world.tear-all (length (world-of (c .args .market .now) .accounts)) 0 (world-of (c .args .market .now))) r
+          (c .loop-a .market) (c .args .market .now) (c .loop-a .reports) (c .args .reports .now)) e i);
       room = (i .orders, i .reports);
     }

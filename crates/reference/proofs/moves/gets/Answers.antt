@@ -11,7 +11,8 @@ use Rattle.std.proofs.shelf.Lists.{map-set, length-map}
 use Rattle.std.proofs.shelf.Signed.{ints}
 use Rattle.std.specs.Of.Vec.{vec-items, vec-len}
 use Rattle.venue.specs.World.{account, item, held, with-account}
-use Rattle.reference.specs.Means.{account-of, held-of, world-of, Within}
+use Rattle.reference.specs.Means.{account-of, held-of, world-of}
+use Rattle.reference.specs.Conditions.{Within}
 use Rattle.reference.proofs.Places.{account-read, item-read, gets-from}
 use Rattle.reference.proofs.Products.{account-same}
 use Rattle.reference.proofs.moves.gets.Needs as need
@@ -25,7 +26,8 @@ index-mut-requires c κs = let h = simp length-map at (c .pre .here .0) in searc
 pub times-cost-requires : need.times-cost-requires
 times-cost-requires c κs =
     let k-in : c .args .k < vec-len (c .args .market .now .items) = let h = simp length-map at (c .pre .here .1) in search needs in
-    let e = rw (item-read (c .args .market .now) (c .args .k) (c .index .result .now) k-in (c .index .ensures)) at (c .pre .roomy .priced (c .args .k) (c .pre .here .1)) in
+    let e = rw (item-read (c .args .market .now) (c .args .k) (c .index .result .now) k-in (c .index .ensures)) at
+    (c .pre .roomy .priced (c .args .k) (c .pre .here .1)) in
     record { h = (omega (arith, ints), omega (arith, ints)); d = (omega (arith, ints), omega (arith, ints)) }
 
 pub carry-requires : need.carry-requires
@@ -58,7 +60,8 @@ returns c =
     let new : account-of (c .carry .last .account) ≡
     record {
       cash = c .index-mut .result .now .cash -ℤ (c .args .x *ℤ (pos (c .args .price) -ℤ pos (c .index .result .now .price)));
-      holds = set (map held-of (vec-items (c .index-mut .result .now .positions))) (c .args .k) (getD (map held-of (vec-items (c .index-mut .result .now .positions))) (c .args .k) (pos 0) +ℤ c .args .x);
+      holds = set (map held-of (vec-items (c .index-mut .result .now .positions))) (c .args .k)
+          (getD (map held-of (vec-items (c .index-mut .result .now .positions))) (c .args .k) (pos 0) +ℤ c .args .x);
     } =
     c .carry .ensures ∙ account-same (rw (← cost) (omega (arith, ints))) (ap (set hs (c .args .k)) (omega (arith, ints))) in
     record {

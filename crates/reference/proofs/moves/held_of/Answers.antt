@@ -38,7 +38,8 @@ unfolding held
 returns c =
     let b = need.at·returns c .After-index in
     let h : getD (map held-of (vec-items (c .index .result .now .positions))) (c .args .item) (pos 0) ≡ c .index-2 .result .now .held =
-    read-map held-of (vec-items (c .index .result .now .positions)) (c .args .item) (c .index-2 .result .now) (pos 0) (in-row b) (rw (c .from-2 .ensures) at (c .index-2 .ensures)) in
+    read-map held-of (vec-items (c .index .result .now .positions)) (c .args .item) (c .index-2 .result .now) (pos 0) (in-row b)
+    (rw (c .from-2 .ensures) at (c .index-2 .ensures)) in
     let z : toZ w64 (ofZ w64 (c .index-2 .result .now .held)) ≡ c .index-2 .result .now .held = search (needs, toZ-ofZ) in
     let v : toZ w64 (ofZ w64 (c .index-2 .result .now .held)) ≡ held (account (world-of (c .args .market .now)) (c .args .account)) (c .args .item) =
     z ∙ sym h ∙ ap (λ y. held y (c .args .item)) (sym (read b)) in

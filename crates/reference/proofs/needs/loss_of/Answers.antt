@@ -2,7 +2,7 @@ use native.Mathlib.Omega.{arith}
 use native.Mathlib.Nat.{mul-le-mul}
 use Prim.Native.Nat.{_≤_}
 use Rattle.std.proofs.shelf.Ways.{tells}
-use Rattle.reference.specs.Means.{buy-loss, sell-loss}
+use Rattle.reference.specs.Parts.{buy-loss, sell-loss}
 use Rattle.reference.proofs.needs.loss_of.Needs as need
 
 pub returns-then-o-account : need.returns-then-o-account

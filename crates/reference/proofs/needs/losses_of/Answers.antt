@@ -7,8 +7,10 @@ use Rattle.reference.proofs.needs.losses_of.Needs as need
 
 pub loop-o-again : need.loop-o-again
 loop-o-again c =
-    let b = buys-more (c .args .account) (c .args .item) (c .args .orders .now) (c .loop-o .o-index) (c .loop-o-test .taken) (item-of (c .args .at)) in
-    let s = sells-more (c .args .account) (c .args .item) (c .args .orders .now) (c .loop-o .o-index) (c .loop-o-test .taken) (item-of (c .args .at)) in
+    let b = buys-more (c .args .account) (c .args .item) (c .args .orders .now) (c .loop-o .o-index) (c .loop-o-test .taken) (item-of (c .args .at))
+    in
+    let s = sells-more (c .args .account) (c .args .item) (c .args .orders .now) (c .loop-o .o-index) (c .loop-o-test .taken) (item-of (c .args .at))
+    in
     grind arith
 
 pub returns : need.returns

@@ -5,7 +5,8 @@ use lib.IntN.{_+ℤ_}
 use lib.ListN.{drop}
 use Rattle.venue.specs.World.{need-from}
 use Rattle.wire.specs.Means.{item-of}
-use Rattle.reference.specs.Means.{order-of, account-of, Within}
+use Rattle.reference.specs.Means.{order-of, account-of}
+use Rattle.reference.specs.Conditions.{Within}
 use Rattle.reference.proofs.needs.need.Given as given
 
 abbrev pub Inv-loop-k : given.InvT-loop-k

@@ -13,7 +13,8 @@ use Rattle.reference.proofs.needs.need_in.Needs.{After-swing-swing}
 
 parts : (c : need.After-swing-swing) →
     need-in (c .args .account) (c .args .k) (item-of (c .args .item)) (c .args .held) (map order-of (c .args .orders .now)) ≡
-    larger (c .swing-swing .result +ℤ pos (c .losses-of-losses .result .buys)) (negℤ (c .swing-swing .result) +ℤ pos (c .losses-of-losses .result .sells))
+    larger (c .swing-swing .result +ℤ pos (c .losses-of-losses .result .buys))
+    (negℤ (c .swing-swing .result) +ℤ pos (c .losses-of-losses .result .sells))
 parts c =
     let a = toZ-ofZ w64 (c .args .held) (c .fits .held) in
     let e : c .swing-swing .result ≡ c .args .held *ℤ pos (c .args .item .band) = cc in

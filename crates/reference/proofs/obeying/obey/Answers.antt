@@ -9,12 +9,19 @@ use Rattle.reference.proofs.obeying.obey.Needs as need
 pub pay-in-requires : need.pay-in-requires
 pay-in-requires c κs =
     let s = c .pre .standing in
-    record { fit = standing-fit (limits-of (c .args .limits) (s .0)) (world-of (c .args .market .now)) (vec-cap (c .args .market .now .orders)) (s .1); limit = s .1 .sized .money }
+    record {
+      fit = standing-fit (limits-of (c .args .limits) (s .0)) (world-of (c .args .market .now)) (vec-cap (c .args .market .now .orders))
+          (s .1);
+      limit = s .1 .sized .money;
+    }
 
 pub pay-out-requires : need.pay-out-requires
 pay-out-requires c κs =
     let s = c .pre .standing in
-    record { fit = standing-fit (limits-of (c .args .limits) (s .0)) (world-of (c .args .market .now)) (vec-cap (c .args .market .now .orders)) (s .1) }
+    record {
+      fit = standing-fit (limits-of (c .args .limits) (s .0)) (world-of (c .args .market .now)) (vec-cap (c .args .market .now .orders))
+          (s .1);
+    }
 
 pub place-requires : need.place-requires
 place-requires c κs =
@@ -32,7 +39,8 @@ end-day-requires c κs =
     let s = c .pre .standing in
     record {
       fit = standing-fit (limits-of (c .args .limits) (s .0)) (world-of (c .args .market .now)) (vec-cap (c .args .market .now .orders)) (s .1);
-      settles = standing-settles (c .args .limits .orders) (c .args .limits .money) (s .0) (world-of (c .args .market .now)) (vec-cap (c .args .market .now .orders)) (s .1);
+      settles = standing-settles (c .args .limits .orders) (c .args .limits .money) (s .0) (world-of (c .args .market .now))
+          (vec-cap (c .args .market .now .orders)) (s .1);
     }
 
 pub begin-day-requires : need.begin-day-requires
@@ -47,7 +55,15 @@ begin-day-requires c κs =
     }
 
 pub returns-in-Place : need.returns-in-Place
-returns-in-Place c = record { after = λ k. rw (c .in-Place .is) (c .place .ensures .after k ∙ after-nothing (c .args .reports .now) _ (c .pre .none .0)); room = c .place .ensures .room }
+returns-in-Place c = record {
+  after = λ k. rw (c .in-Place .is)
+      (c .place .ensures .after k ∙ after-nothing (c .args .reports .now) _ (c .pre .none .0));
+  room = c .place .ensures .room;
+}
 
 pub returns-in-BeginDay : need.returns-in-BeginDay
-returns-in-BeginDay c = record { after = λ k. rw (c .in-BeginDay .is) (c .begin-day .ensures .after k ∙ after-nothing (c .args .reports .now) _ (c .pre .none .0)); room = c .begin-day .ensures .room }
+returns-in-BeginDay c = record {
+  after = λ k. rw (c .in-BeginDay .is)
+      (c .begin-day .ensures .after k ∙ after-nothing (c .args .reports .now) _ (c .pre .none .0));
+  room = c .begin-day .ensures .room;
+}

@@ -45,7 +45,8 @@ returns-then-money-limits c =
 read : (c : need.After-index-mut) → account (world-of (c .args .market .now)) (c .args .account) ≡ account-of (c .index-mut .result .now)
 read c =
     let here : c .args .account < vec-len (c .args .market .now .accounts) = search needs in
-    account-read (c .args .market .now) (c .args .account) (c .index-mut .result .now) here (rw (c .from-a .ensures) at (c .index-mut .ensures .value))
+    account-read (c .args .market .now) (c .args .account) (c .index-mut .result .now) here
+    (rw (c .from-a .ensures) at (c .index-mut .ensures .value))
 
 pub add-index-mut : need.add-index-mut
 add-index-mut c =
@@ -60,7 +61,8 @@ returns c =
     let r = read (need.at·returns c .After-index-mut) in
     let m = rw r at (c .pre .fit .roomy .cash (c .args .account) (simp length-map (search needs))) in
     let x : c .in-Some .money ≡ c .args .market .now .money + c .args .amount = c .in-Some .ensures tt .1 in
-    let cash : toZ w64 (ofZ w64 (toZ w64 (ofZ w64 (c .index-mut .result .now .cash)) +ℤ toZ w64 (c .args .amount))) ≡ c .index-mut .result .now .cash +ℤ pos (c .args .amount) =
+    let cash : toZ w64 (ofZ w64 (toZ w64 (ofZ w64 (c .index-mut .result .now .cash)) +ℤ toZ w64 (c .args .amount))) ≡ c .index-mut .result .now .cash
+    +ℤ pos (c .args .amount) =
     omega (arith, ints, c .pre .limit) in
     record {
       after = λ k.

@@ -52,7 +52,12 @@ counted c =
       is = r;
       here = h;
       high = omega (arith, ints, c .pre .fit .roomy .cash (c .args .account) h .1, r);
-      low = omega (arith, ints, need-0 (world-of (c .args .market .now)) (c .args .account) (world-of (c .args .market .now) .orders), c .need-of .ensures .value);
+      low = omega (
+        arith,
+        ints,
+        need-0 (world-of (c .args .market .now)) (c .args .account) (world-of (c .args .market .now) .orders),
+        c .need-of .ensures .value,
+      );
     }
 
 pub returns-then-need-of-from : need.returns-then-need-of-from
@@ -75,7 +80,8 @@ pub returns : need.returns
 unfolding with-money with-account
 returns c =
     let k = counted (need.at·returns c .After-need-of) in
-    let r = account-read (c .args .market .now) (c .args .account) (c .index-mut .result .now) (search needs) (rw (c .from-a .ensures) at (c .index-mut .ensures .value)) in
+    let r = account-read (c .args .market .now) (c .args .account) (c .index-mut .result .now) (search needs)
+    (rw (c .from-a .ensures) at (c .index-mut .ensures .value)) in
     let cash : account (world-of (c .args .market .now)) (c .args .account) .cash -ℤ pos (c .args .amount) ≡
     toZ w64 (ofZ w64 (toZ w64 (ofZ w64 (c .index .result .now .cash)) -ℤ toZ w64 (c .args .amount))) =
     omega (arith, ints, k .is, k .high, k .low) in

@@ -23,8 +23,11 @@ standing-requires c κs = let g = simp length-map at (c .pre .fit .orders) in se
 pub returns : need.returns
 returns c =
     let z : toZ w64 (ofZ w64 (c .held-of-held .result)) ≡ c .held-of-held .result = search (needs, toZ-ofZ) in
-    let a : c .unsigned-abs .result ≡ abs (held (account (world-of (c .args .market .now)) (c .args .order .now .account)) (c .args .order .now .item)) =
+    let a : c .unsigned-abs .result ≡ abs (held (account (world-of (c .args .market .now)) (c .args .order .now .account))
+    (c .args .order .now .item)) =
     c .unsigned-abs .ensures .value ∙ ap natAbs (z ∙ c .held-of-held .ensures .value) ∙ sym (abs-is _) in
-    let t : c .standing .result ≡ world.standing (c .args .order .now .account) (c .args .order .now .item) (map order-of (vec-items (c .args .market .now .orders))) =
-    c .standing .ensures .value ∙ ap (λ os. world.standing (c .args .order .now .account) (c .args .order .now .item) (map order-of os)) (c .deref .ensures .value) in
+    let t : c .standing .result ≡ world.standing (c .args .order .now .account) (c .args .order .now .item)
+    (map order-of (vec-items (c .args .market .now .orders))) =
+    c .standing .ensures .value ∙ ap (λ os. world.standing (c .args .order .now .account) (c .args .order .now .item) (map order-of os))
+    (c .deref .ensures .value) in
     cc

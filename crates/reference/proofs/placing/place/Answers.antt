@@ -13,7 +13,9 @@ use Rattle.venue.specs.Turn.{Turn, may-place}
 use Rattle.venue.specs.World as world
 use Rattle.venue.specs.World.{World, counted, new-order, says-it, done, no}
 use Rattle.wire.specs.Means.{report-of, side-of}
-use Rattle.reference.specs.Means.{world-of, order-of, limits-of, after, filled, Filling}
+use Rattle.reference.specs.Means.{world-of, order-of, limits-of}
+use Rattle.reference.specs.Conditions.{Filling}
+use Rattle.reference.specs.Parts.{after, filled}
 use Rattle.reference.proofs.Fills.{after-more, after-one}
 use Rattle.reference.proofs.Placings.{not-placed, placed, counted-is}
 use Rattle.reference.proofs.placing.place.Needs as need
@@ -23,7 +25,8 @@ pub push-reserved-requires : need.push-reserved-requires
 push-reserved-requires c κs =
     let k = c .pre .sound .0 in
     let w = world-of (c .args .market .now) in
-    let n = not-placed (limits-of (c .args .limits) k) w (c .args .order .account) (c .args .order .item) (c .args .order .price) (c .args .order .left) (side-of (c .args .order .side))
+    let n = not-placed (limits-of (c .args .limits) k) w (c .args .order .account) (c .args .order .item) (c .args .order .price)
+    (c .args .order .left) (side-of (c .args .order .side))
     (sym (c .may-place .ensures .value k) ∙ c .if-not-may-place .taken) in
     let l = ap (λ p. length (p .1)) n in
     omega (arith, c .pre .room k)
@@ -36,7 +39,8 @@ returns-then-not-may-place c =
     ap (map report-of) (c .push-reserved .ensures .items) ∙ map-push report-of (vec-items (c .args .reports .now)) _ in
     record {
       after = λ k.
-          let n = not-placed (limits-of (c .args .limits) k) w (c .args .order .account) (c .args .order .item) (c .args .order .price) (c .args .order .left) (side-of (c .args .order .side))
+          let n = not-placed (limits-of (c .args .limits) k) w (c .args .order .account) (c .args .order .item) (c .args .order .price)
+          (c .args .order .left) (side-of (c .args .order .side))
           (sym (c .may-place .ensures .value k) ∙ c .if-not-may-place .taken) in
           rw (c .may-place .ensures .same, p, n);
       room = (c .may-place .ensures .room, c .push-reserved .ensures .capacity);
@@ -44,11 +48,13 @@ returns-then-not-may-place c =
 
 -- the order is taken: what is said, and that its number can be counted
 record Taken (c : need.Else-not-may-place) : Type 0 where
-  says : (k : ℕ → Bool) → says-it (limits-of (c .args .limits) k) (world-of (c .args .market .now)) (world.place (c .args .order .account) (c .args .order .item) (side-of (c .args .order .side)) (c .args .order .price) (c .args .order .left)) ≡
+  says : (k : ℕ → Bool) → says-it (limits-of (c .args .limits) k) (world-of (c .args .market .now))
+      (world.place (c .args .order .account) (c .args .order .item) (side-of (c .args .order .side)) (c .args .order .price) (c .args .order .left)) ≡
       after (done (c .args .market .now .next) ∷ []) (filled (counted (world-of (c .args .market .now))) (order-of (c .args .order)))
   filling : Filling (counted (world-of (c .args .market .now))) (order-of (c .args .order)) (vec-cap (c .args .market .now .orders))
   number : c .args .market .now .next < 9223372036854775808
-  room : vec-len (c .args .reports .now) + suc (length (filled (counted (world-of (c .args .market .now))) (order-of (c .args .order)) .1)) ≤ vec-cap (c .args .reports .now)
+  room : vec-len (c .args .reports .now) + suc (length (filled (counted (world-of (c .args .market .now))) (order-of (c .args .order)) .1)) ≤ vec-cap
+      (c .args .reports .now)
 
 is-taken : (c : need.Else-not-may-place) → Taken c
 unfolding new-order counted
@@ -57,12 +63,16 @@ is-taken c =
     let z = limits-of (c .args .limits) k in
     let w = world-of (c .args .market .now) in
     let o = c .args .order in
-    let new : new-order (world-of (c .args .market .now)) (c .args .order .account) (c .args .order .item) (side-of (c .args .order .side)) (c .args .order .price) (c .args .order .left) ≡ order-of (c .args .order) = cc in
+    let new : new-order (world-of (c .args .market .now)) (c .args .order .account) (c .args .order .item) (side-of (c .args .order .side))
+    (c .args .order .price) (c .args .order .left) ≡ order-of (c .args .order) = cc in
     let may = sym (c .may-place .ensures .value k) ∙ c .if-not-may-place .left in
     let t = turn-begins z w (o .account) (o .item) (side-of (o .side)) (o .price) (o .left) (c .pre .sound .1) may in
-    let said : (k : ℕ → Bool) → says-it (limits-of (c .args .limits) k) (world-of (c .args .market .now)) (world.place (c .args .order .account) (c .args .order .item) (side-of (c .args .order .side)) (c .args .order .price) (c .args .order .left)) ≡
+    let said : (k : ℕ → Bool) → says-it (limits-of (c .args .limits) k) (world-of (c .args .market .now))
+    (world.place (c .args .order .account) (c .args .order .item) (side-of (c .args .order .side)) (c .args .order .price)
+    (c .args .order .left)) ≡
     after (done (c .args .market .now .next) ∷ []) (filled (counted (world-of (c .args .market .now))) (order-of (c .args .order))) =
-    λ k. placed (limits-of (c .args .limits) k) w (o .account) (o .item) (o .price) (o .left) (side-of (o .side)) (sym (c .may-place .ensures .value k) ∙ c .if-not-may-place .left) ∙
+    λ k. placed (limits-of (c .args .limits) k) w (o .account) (o .item) (o .price) (o .left) (side-of (o .side))
+    (sym (c .may-place .ensures .value k) ∙ c .if-not-may-place .left) ∙
     ap (λ x. after (done (w .next) ∷ []) (filled (counted w) x)) new in
     let l = ap (λ p. length (p .1)) (said k) ∙ after-one (done (w .next)) (filled (counted w) (order-of o)) in
     record {
@@ -100,10 +110,12 @@ returns c =
     let w = world-of (c .args .market .now) in
     let rs = map report-of (vec-items (c .args .reports .now)) in
     let e = counted-is (c .may-place .last .market) w (c .may-place .ensures .same) in
-    let p : map report-of (vec-items (c .push-reserved-2 .last .self)) ≡ map report-of (vec-items (c .args .reports .now)) ++ done (c .args .market .now .next) ∷ [] =
+    let p : map report-of (vec-items (c .push-reserved-2 .last .self)) ≡ map report-of (vec-items (c .args .reports .now)) ++ done
+    (c .args .market .now .next) ∷ [] =
     ap (map report-of) (c .push-reserved-2 .ensures .items) ∙ map-push report-of (vec-items (c .args .reports .now)) _ ∙
     ap (λ n. map report-of (vec-items (c .args .reports .now)) ++ done n ∷ []) (ap (λ v. v .next) (c .may-place .ensures .same)) in
     record {
-      after = λ k. c .fill .ensures .after ∙ rw (p, e, t .says k) (sym (after-more rs (done (w .next)) (filled (counted w) (order-of (c .args .order)))));
+      after = λ k. c .fill .ensures .after ∙ rw (p, e, t .says k)
+          (sym (after-more rs (done (w .next)) (filled (counted w) (order-of (c .args .order)))));
       room = (c .fill .ensures .room .0 ∙ c .may-place .ensures .room, c .fill .ensures .room .1 ∙ c .push-reserved-2 .ensures .capacity);
     }

@@ -6,7 +6,8 @@ use lib.ListN.{length, take}
 use Rattle.std.proofs.shelf.Lists.{length-map, take-map}
 use Rattle.std.specs.Of.Vec.{vec-items, vec-len}
 use Rattle.venue.specs.World.{with-orders}
-use Rattle.reference.specs.Means.{world-of, order-of, Fit}
+use Rattle.reference.specs.Means.{world-of, order-of}
+use Rattle.reference.specs.Conditions.{Fit}
 use Rattle.reference.proofs.Stood.{stood-fit, stood-covered, stood-gone}
 use Rattle.reference.proofs.placing.would_cover.Needs as need
 use Rattle.reference.proofs.placing.would_cover.Needs.{After-stand}
@@ -16,7 +17,8 @@ unfolding with-orders
 covers-covered-requires c κs =
     record {
       here = subst (λ v. c .args .order .account < length (v .accounts)) (sym (c .stand .ensures .after)) (c .pre .here);
-      fit = stood-fit (world-of (c .args .market .now)) (world-of (c .stand .last .market)) (order-of (c .args .order)) (c .stand .ensures .after) (c .pre .room .1) (c .pre .fit);
+      fit = stood-fit (world-of (c .args .market .now)) (world-of (c .stand .last .market)) (order-of (c .args .order)) (c .stand .ensures .after)
+          (c .pre .room .1) (c .pre .fit);
     }
 
 pub returns : need.returns

@@ -10,7 +10,8 @@ use Rattle.std.proofs.shelf.Lists.{length-map}
 use Rattle.std.proofs.shelf.Signed.{ints, toZ-ofZ}
 use Rattle.std.specs.Of.Vec.{vec-items}
 use Rattle.venue.specs.World.{World, gets, with-orders, taken}
-use Rattle.reference.specs.Means.{world-of, order-of, Roomy}
+use Rattle.reference.specs.Means.{world-of, order-of}
+use Rattle.reference.specs.Conditions.{Roomy}
 use Rattle.reference.proofs.ByTrade.{traded-is}
 use Rattle.reference.proofs.Room.{Still-roomy, still-roomy, roomy-orders, roomy-wider}
 use Rattle.reference.proofs.trades.trade.Needs as need
@@ -26,7 +27,8 @@ gets-requires c κs =
     let os = map order-of (vec-items (c .take-from .last .orders)) in
     record {
       here = (search needs, search needs);
-      roomy = roomy-wider 1125899906842624 2147483648 1000000000000000000 1000000000000 (with-orders w os) (omega arith) (omega arith) (roomy-orders 1125899906842624 2147483648 w os (c .pre .roomy));
+      roomy = roomy-wider 1125899906842624 2147483648 1000000000000000000 1000000000000 (with-orders w os) (omega arith) (omega arith)
+          (roomy-orders 1125899906842624 2147483648 w os (c .pre .roomy));
       amount = ((omega (arith, ints), omega (arith, ints)), search needs);
     }
 
@@ -38,9 +40,12 @@ half c =
     let os = map order-of (vec-items (c .take-from .last .orders)) in
     let f : SFits w64 (c .signed .result) = search needs in
     let s = toZ-ofZ w64 (c .signed .result) f in
-    let e : world-of (c .gets .last .market) ≡ gets (with-orders w os) (c .args .o .now .account) (c .args .o .now .item) (c .signed .result) (c .args .r .now .price) = cc in
-    let h = still-roomy (with-orders w os) (world-of (c .gets .last .market)) (c .args .o .now .account) (c .args .o .now .item) (c .signed .result) (c .args .r .now .price)
-    e (roomy-orders 1125899906842624 2147483648 w os (c .pre .roomy)) (c .pre .accounts .0) (c .pre .here .1) (omega (arith, ints, c .signed .ensures .bound .0), omega (arith, ints, c .signed .ensures .bound .1)) (c .pre .amount .1) in
+    let e : world-of (c .gets .last .market) ≡ gets (with-orders w os) (c .args .o .now .account) (c .args .o .now .item) (c .signed .result)
+    (c .args .r .now .price) = cc in
+    let h = still-roomy (with-orders w os) (world-of (c .gets .last .market)) (c .args .o .now .account) (c .args .o .now .item) (c .signed .result)
+    (c .args .r .now .price)
+    e (roomy-orders 1125899906842624 2147483648 w os (c .pre .roomy)) (c .pre .accounts .0) (c .pre .here .1)
+    (omega (arith, ints, c .signed .ensures .bound .0), omega (arith, ints, c .signed .ensures .bound .1)) (c .pre .amount .1) in
     record { roomy = h .roomy; accounts = h .accounts; items = h .items }
 
 pub gets-requires-2 : need.gets-requires-2
@@ -66,7 +71,8 @@ returns c =
     let e : with-orders w os ≡ with-orders w (taken (c .args .j) (c .args .x) (w .orders)) = ap (with-orders w) (c .take-from .ensures .after) in
     record {
       after =
-          traded-is w (with-orders w os) (world-of (c .gets .last .market)) (world-of (c .gets-2 .last .market)) (order-of (c .args .o .now)) (order-of (c .args .r .now))
+          traded-is w (with-orders w os) (world-of (c .gets .last .market)) (world-of (c .gets-2 .last .market)) (order-of (c .args .o .now))
+          (order-of (c .args .r .now))
           (c .args .j) (c .args .x) e (cc) (cc);
       room = search needs;
     }

@@ -23,6 +23,7 @@ returns-then-from-len c =
 pub returns : need.returns
 returns c =
     let h : c .args .account < length (vec-items (c .args .self .now .market .accounts)) = search needs in
-    let r = account-read (c .args .self .now .market) (c .args .account) (c .index .result .now) (search needs) (rw (c .from-2 .ensures) at (c .index .ensures)) in
+    let r = account-read (c .args .self .now .market) (c .args .account) (c .index .result .now) (search needs)
+    (rw (c .from-2 .ensures) at (c .index .ensures)) in
     let z : toZ w64 (ofZ w64 (c .index .result .now .cash)) ≡ c .index .result .now .cash = search (needs, toZ-ofZ) in
     rw (length-map, lt-ltb (c .args .account) (length (vec-items (c .args .self .now .market .accounts))) h) (ap Some (z ∙ ap (λ y. y .cash) (sym r)))

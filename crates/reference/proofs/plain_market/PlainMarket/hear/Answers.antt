@@ -26,7 +26,8 @@ abbrev said : (c : need.After-has) → world.Message
 said c = message-of (c .args .bytes .now) (length (world-of (c .args .self .now .market) .items)) (c .args .message)
 
 built : (c : need.After-has) → c .has .result ≡ kinds-of (c .args .self .now .kinds) (kind (said c))
-built c = c .has .ensures ∙ ap (kinds-of (c .args .self .now .kinds)) (c .kind .ensures (c .args .bytes .now) (length (world-of (c .args .self .now .market) .items)))
+built c = c .has .ensures ∙ ap (kinds-of (c .args .self .now .kinds))
+    (c .kind .ensures (c .args .bytes .now) (length (world-of (c .args .self .now .market) .items)))
 
 -- what a message that is built does
 says-is : (c : need.Then-has) →
@@ -76,7 +77,8 @@ ghost-self c =
     let i = ap (λ v. length (v .items)) e ∙ l .items in (
       subst (Sound z) (sym e) (sound-says z w q (m .sound)),
       (
-        sizes-test (m .limits) k (world-of (c .obey .last .market)) (subst (Sized z) (sym e) (sized-says z w q (m .sound) (sizes-tell (m .limits) k w (m .sized)))),
+        sizes-test (m .limits) k (world-of (c .obey .last .market))
+            (subst (Sized z) (sym e) (sized-says z w q (m .sound) (sizes-tell (m .limits) k w (m .sized)))),
         (
           omega (arith, m .places, c .obey .ensures .room .0),
           (rw (a, i) (omega (arith, m .room, c .obey .ensures .room .1, c .clear .ensures .capacity)), tt),

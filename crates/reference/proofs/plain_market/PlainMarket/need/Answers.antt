@@ -35,4 +35,5 @@ pub returns : need.returns
 returns c =
     let h : c .args .account < length (vec-items (c .args .self .now .market .accounts)) = search needs in
     let z : toZ w128 (ofZ w128 (c .need-of .result)) ≡ c .need-of .result = omega (arith, ints) in
-    rw (length-map, lt-ltb (c .args .account) (length (vec-items (c .args .self .now .market .accounts))) h) (ap Some (z ∙ c .need-of .ensures .value))
+    rw (length-map, lt-ltb (c .args .account) (length (vec-items (c .args .self .now .market .accounts))) h)
+    (ap Some (z ∙ c .need-of .ensures .value))

@@ -12,6 +12,7 @@ use Rattle.reference.proofs.plain_market.making.new_accounts.Needs as need
 
 pub loop-a-again : need.loop-a-again
 loop-a-again c =
-    let h : map held-of (vec-items (c .in-Continue-positions .positions)) ≡ replicate (c .args .items) (pos 0) = c .in-Continue-positions .ensures tt in
+    let h : map held-of (vec-items (c .in-Continue-positions .positions)) ≡ replicate (c .args .items) (pos 0) = c .in-Continue-positions .ensures tt
+    in
     ap (map account-of) (c .in-Continue-push .ensures tt .items) ∙ map-push account-of (vec-items (c .loop-a .all)) _ ∙
     rw (c .loop-a .inv, h) (replicate-more (c .loop-a .a) (record { cash = pos 0; holds = replicate (c .args .items) (pos 0) }))
