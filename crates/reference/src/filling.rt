@@ -24,11 +24,13 @@ pub(crate) fn fill(market: &mut Market, order: Order, reports: &mut Vec<Report>)
 {
     let mut o = order;
     'filling: while o.left != 0 {
+        // From the back, so that of equal prices the one that came first is met.
         let n = market.orders.len();
         let mut at = n;
         let mut i = n;
         loop {
             if i == 0 {
+                // Nothing meets it any more.
                 if at == n {
                     stand(market, o);
                     break 'filling;
