@@ -100,13 +100,6 @@ pub turn : (w w′ : World) (o r : Order) (j x : ℕ) (rs : List Report) → (o 
 turn w w′ o r j x rs ne ej lt er ex e =
     rw (e, ← after-more, ← filled-trades w o r j x ne ej lt er ex)
 
-pub shorter : (w w′ : World) (o r : Order) (j x : ℕ) → (o .left ≡ 0 → ⊥) → j < length (w .orders) → r ≡ getD (w .orders) j no-order →
-    x ≡ lesser (o .left) (r .left) → w′ ≡ traded w o r j x → (o .left - x) + length (w′ .orders) < o .left + length (w .orders)
-shorter w w′ o r j x ne lt er ex e =
-    let n : w′ .orders ≡ taken j x (w .orders) = ap (λ v. v .orders) e ∙ traded-orders w o r j x in
-    let l = length-taken j x (w .orders) lt in
-    rw n (grind (arith, tells))
-
 -- the market and the order of one turn, as the trade asks for them
 pub record Ready (w : World) (o r : Order) : Type 0 where
   pub account : o .account < length (w .accounts)

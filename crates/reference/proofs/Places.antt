@@ -26,9 +26,6 @@ blank-order = record { number = 0; account = 0; item = 0; side = Buy; price = 0;
 abbrev pub blank-item : Item
 blank-item = record { price = 0; band = 0 }
 
-abbrev pub blank-position : Position
-blank-position = record { held = pos 0 }
-
 pub read-map : {X Y : Type 0} (f : X → Y) (xs : List X) (i : ℕ) (x : X) (e : Y) → i < length xs → x ≡ getD xs i x → getD (map f xs) i e ≡ f x
 read-map f xs i x e h r = getD-map f xs i x e h ∙ ap f (sym r)
 

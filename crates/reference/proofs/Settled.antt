@@ -22,9 +22,6 @@ use Rattle.reference.proofs.Places.{blank-item}
 abbrev pub rest : List ℕ → ℕ → ℕ → ℕ → List ℕ
 rest bs i n k = column bs (i + 8 * k) (n - k)
 
-pub rest-whole : (bs : List ℕ) (i n : ℕ) → rest bs i n 0 ≡ column bs i n
-rest-whole bs i n = let e : i + 8 * 0 ≡ i = omega arith in let f : n - 0 ≡ n = omega arith in rw (e, f)
-
 pub rest-more : (bs : List ℕ) (i n k : ℕ) → k < n → rest bs i n k ≡ four bs (i + 8 * k) ∷ rest bs i n (k + 1)
 unfolding column
 rest-more bs i n k h =
