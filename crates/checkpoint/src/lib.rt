@@ -1,1 +1,2 @@
 // A market whole, as the body of a checkpoint on a disc.
+#![tactic(auto)]

@@ -1,4 +1,6 @@
 // Six worked days through the plain market: each report's line, and what the accounts have at the end.
+#![tactic(auto)]
+
 use anyhow::anyhow;
 use day::{Day, buy, evening, morning, pay_out, sell};
 use disc::Header;

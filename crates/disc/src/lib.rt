@@ -1,4 +1,6 @@
 // A disc's first blocks, where everything else lies on it, and new discs.
+#![tactic(auto)]
+
 pub mod header;
 pub mod layout;
 pub mod making;

@@ -1,4 +1,6 @@
 // The market, with the kinds of messages that are built so far: market DISC MESSAGES.
+#![tactic(auto)]
+
 use session::program;
 use wire::Kinds;
 

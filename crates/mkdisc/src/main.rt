@@ -1,4 +1,6 @@
 // A new disc from a setup file: mkdisc SETUP DISC.
+#![tactic(auto)]
+
 use anyhow::anyhow;
 use std::alloc::Global;
 use std::fs::{OpenFile, OpenOptions};

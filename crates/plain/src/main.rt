@@ -1,4 +1,6 @@
 // The plain market, with every kind of message: plain DISC MESSAGES.
+#![tactic(auto)]
+
 use session::program;
 use wire::Kinds;
 

@@ -1,4 +1,6 @@
 // The plain market as a program: everything is counted anew for each message.
+#![tactic(auto)]
+
 mod cancelling;
 mod evening;
 mod filling;

@@ -1,4 +1,6 @@
 // What the programs `plain` and `market` have in common: a disc, a file of messages, and the reports as lines.
+#![tactic(auto)]
+
 pub mod playing;
 pub mod programs;
 pub mod stepping;

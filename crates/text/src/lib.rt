@@ -1,4 +1,6 @@
 // The lines that programs print, and the files that describe a new market.
+#![tactic(auto)]
+
 pub mod draft;
 pub mod entry;
 pub mod fault;

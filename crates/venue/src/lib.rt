@@ -1,4 +1,6 @@
 // The theorems about the plain market, each as a function whose contract is the statement.
+#![tactic(auto)]
+
 pub mod laws_of_days;
 pub mod laws_of_members;
 pub mod laws_of_orders;

@@ -1,4 +1,6 @@
 // Messages, reports and refusals as types, and their bytes.
+#![tactic(auto)]
+
 pub mod append;
 pub mod item;
 pub mod kinds;
