@@ -6,21 +6,21 @@ use Rattle.disc.proofs.new_disc.disc_bytes.Goals as goal
 
 pub pad-requires : goal.pad-requires
 pad-requires c =
-    first_fits (header_of c.args.header.now) c.count-count.result c.first-blocks-first.result
-    (vec_len c.in-ok-bytes.bytes) (vec_items c.in-ok-bytes.bytes)
-    c.count-count.ensures.value c.first-blocks-first.ensures.0 c.in-ok-bytes.bytes.ok.0 c.in-ok-bytes.ensures
+    first_fits (header_of c.args.header.now) c.count-count.result c.first_blocks-first.result
+    (vec_len c.in_ok-bytes.bytes) (vec_items c.in_ok-bytes.bytes)
+    c.count-count.ensures.value c.first_blocks-first.ensures.0 c.in_ok-bytes.bytes.ok.0 c.in_ok-bytes.ensures
 
 pub pad-requires-2 : goal.pad-requires-2
 pad-requires-2 c =
-    all_fits c.count-count.result c.accounts.result c.orders.result c.args.journal c.first-blocks-first.result
-    c.disc-blocks-all.result (vec_len c.pad.new.bytes) (vec_len c.push.new.self)
-    c.first-blocks-first.ensures.0 c.disc-blocks-all.ensures.0 c.in-ok-pad.ensures.1 c.in-ok-push.ensures.len
+    all_fits c.count-count.result c.accounts.result c.orders.result c.args.journal c.first_blocks-first.result
+    c.disc_blocks-all.result (vec_len c.pad.new.bytes) (vec_len c.push.new.self)
+    c.first_blocks-first.ensures.0 c.disc_blocks-all.ensures.0 c.in_ok-pad.ensures.1 c.in_ok-push.ensures.len
 
 pub returns : goal.returns
 returns c =
     new_disc_is (header_of c.args.header.now) c.count-count.result c.accounts.result c.orders.result c.args.journal
-    c.first-blocks-first.result c.disc-blocks-all.result (vec_items c.in-ok-bytes.bytes) (vec_items c.pad.new.bytes)
+    c.first_blocks-first.result c.disc_blocks-all.result (vec_items c.in_ok-bytes.bytes) (vec_items c.pad.new.bytes)
     (vec_items c.push.new.self) (vec_items c.pad-2.new.bytes)
     c.count-count.ensures.value c.accounts.ensures.value c.orders.ensures.value
-    c.first-blocks-first.ensures.0 c.disc-blocks-all.ensures.0 c.in-ok-bytes.ensures c.in-ok-pad.ensures.0
-    c.in-ok-push.ensures.items c.in-ok-pad-2.ensures.0
+    c.first_blocks-first.ensures.0 c.disc_blocks-all.ensures.0 c.in_ok-bytes.ensures c.in_ok-pad.ensures.0
+    c.in_ok-push.ensures.items c.in_ok-pad-2.ensures.0

@@ -12,8 +12,8 @@ loop-item-init c = rw append-nil
 pub loop-item-preserved : goal.loop-item-preserved
 loop-item-preserved c =
     items_bytes_more c.args.items.now c.loop-item.item-index (vec_items c.args.bytes.now) (vec_items c.loop-item.bytes)
-    (vec_items c.put-u32.new.bytes) (vec_items c.put-u32-in-loop-item.new.bytes)
-    c.loop-item-test.true c.loop-item.invariant c.in-ok-put-u32.ensures c.in-ok-put-u32-2.ensures
+    (vec_items c.put_u32.new.bytes) (vec_items c.put_u32-in-loop-item.new.bytes)
+    c.loop-item-test.true c.loop-item.invariant c.in_ok-put_u32.ensures c.in_ok-put_u32-2.ensures
 
 pub returns : goal.returns
 returns c =

@@ -7,8 +7,8 @@ use Rattle.disc.proofs.new_disc.start_bytes.Goals as goal
 pub returns : goal.returns
 unfolding start_bytes
 returns c =
-    put_four (codes "MRKT") (vec_items c.in-ok-bytes.bytes) (vec_items c.put-u32.new.bytes) (vec_items c.put-u32-2.new.bytes)
-    (vec_items c.put-u32-3.new.bytes) (vec_items c.put-u64.new.bytes)
+    put_four (codes "MRKT") (vec_items c.in_ok-bytes.bytes) (vec_items c.put_u32.new.bytes) (vec_items c.put_u32-2.new.bytes)
+    (vec_items c.put_u32-3.new.bytes) (vec_items c.put_u64.new.bytes)
     (four_of c.args.count) (four_of c.args.accounts) (four_of c.args.orders) (eight_of c.args.money)
-    c.in-ok-bytes.ensures.items c.in-ok-put-u32.ensures c.in-ok-put-u32-2.ensures
-    c.in-ok-put-u32-3.ensures c.in-ok-put-u64.ensures
+    c.in_ok-bytes.ensures.items c.in_ok-put_u32.ensures c.in_ok-put_u32-2.ensures
+    c.in_ok-put_u32-3.ensures c.in_ok-put_u64.ensures

@@ -6,10 +6,10 @@ use Rattle.reference.specs.Parts.{found}
 use Rattle.reference.proofs.Cancels.{not_cancelled, cancelled, stands_there, without_removed}
 use Rattle.reference.proofs.cancelling.cancel.Goals as goal
 
-pub returns-in-default : goal.returns-in-default
-returns-in-default c =
+pub returns-in_default : goal.returns-in_default
+returns-in_default c =
     let e : None ≡ found c.args.account c.args.number (map order_of (vec_items c.args.market.now.orders)) =
-    sym c.in-default.is ∙ c.place-of.ensures ∙ ap (λ os. found c.args.account c.args.number (map order_of os)) c.deref.ensures.value
+    sym c.in_default.is ∙ c.place_of.ensures ∙ ap (λ os. found c.args.account c.args.number (map order_of os)) c.deref.ensures.value
     in
     record {
       after = λ k. not_cancelled (limits_of c.args.limits k) (world_of c.args.market.now) c.args.account c.args.number e;
@@ -19,7 +19,7 @@ returns-in-default c =
 pub remove-requires : goal.remove-requires
 remove-requires c =
     let e : Some c.in-Some.at ≡ found c.args.account c.args.number (map order_of (vec_items c.args.market.now.orders)) =
-    sym c.in-Some.is ∙ c.place-of.ensures ∙ ap (λ os. found c.args.account c.args.number (map order_of os)) c.deref.ensures.value
+    sym c.in-Some.is ∙ c.place_of.ensures ∙ ap (λ os. found c.args.account c.args.number (map order_of os)) c.deref.ensures.value
     in
     let h = simp length-map at (stands_there (limits_of c.args.limits (λ k. true)) (world_of c.args.market.now) c.args.account
     c.args.number c.in-Some.at e) in
@@ -30,7 +30,7 @@ unfolding with_orders
 returns c =
     let w = world_of c.args.market.now in
     let e : Some c.in-Some.at ≡ found c.args.account c.args.number (map order_of (vec_items c.args.market.now.orders)) =
-    sym c.in-Some.is ∙ c.place-of.ensures ∙ ap (λ os. found c.args.account c.args.number (map order_of os)) c.deref.ensures.value
+    sym c.in-Some.is ∙ c.place_of.ensures ∙ ap (λ os. found c.args.account c.args.number (map order_of os)) c.deref.ensures.value
     in
     let h : c.in-Some.at < length (vec_items c.args.market.now.orders) = simp length-map at
     (stands_there (limits_of c.args.limits (λ k. true)) w c.args.account c.args.number c.in-Some.at e) in

@@ -21,8 +21,8 @@ within c =
     times_within c.args.held (pos c.args.new -ℤ pos c.args.old) 9223372036854775808 4294967296
     (omega (arith, ints), omega (arith, ints)) (omega (arith, ints), omega (arith, ints))
 
-pub overflow-mul-result : goal.overflow-mul-result
-overflow-mul-result c = let p = within c in rw (same c) (omega (arith, ints))
+pub overflow_mul-result : goal.overflow_mul-result
+overflow_mul-result c = let p = within c in rw (same c) (omega (arith, ints))
 
 pub returns : goal.returns
 returns c = let p = within c in rw (same c) (record { value = omega (arith, ints); bound = (omega (arith, ints), omega (arith, ints)) })

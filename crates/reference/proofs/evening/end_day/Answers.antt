@@ -11,8 +11,8 @@ use Rattle.reference.proofs.evening.end_day.Goals.{After-all-fit, then-bytes-lon
 use Rattle.reference.proofs.evening.end_day.Goals.{then-bytes-long-via-else-bytes-long+then-prices-bytes}
 use Rattle.reference.proofs.evening.end_day.Goals.{then-bytes-long-via-else-bytes-long+else-prices-bytes+then-not-market}
 
-pub overflow-mul-long : goal.overflow-mul-long
-overflow-mul-long c = let h = simp length-map at c.requires.fit.items in search rules
+pub overflow_mul-long : goal.overflow_mul-long
+overflow_mul-long c = let h = simp length-map at c.requires.fit.items in search rules
 
 pub returns-then-bytes-long : goal.returns-then-bytes-long
 returns-then-bytes-long c =
@@ -32,24 +32,24 @@ returns-then-bytes-long c =
     }
 
 -- the test of the prices, in the plain market's words
-tested : (c : goal.After-all-fit) → c.all-fit.result ≡
+tested : (c : goal.After-all-fit) → c.all_fit.result ≡
     world.prices_fit (world_of c.args.market.now).items
     (column c.args.bytes.now c.args.prices (length (world_of c.args.market.now).items))
     (column c.args.bytes.now (c.args.prices + 4) (length (world_of c.args.market.now).items))
 tested c =
     let bs = c.args.bytes.now in
-    c.all-fit.ensures ∙
+    c.all_fit.ensures ∙
     ap (λ xs. world.prices_fit (map item_of xs) (column bs c.args.prices (length xs)) (column bs (c.args.prices + 4) (length xs)))
     c.deref.ensures.value ∙
     simp length-map
 
-pub returns-then-not-all-fit : goal.returns-then-not-all-fit
-returns-then-not-all-fit c =
+pub returns-then-not-all_fit : goal.returns-then-not-all_fit
+returns-then-not-all_fit c =
     let m = c.args.market.now in
     record {
       after = λ k. not_ended (limits_of c.args.limits k) (world_of m) c.args.bytes.now (length (world_of m).items) c.args.prices
           c.requires.fit.some
-          (λ h. false≢true (sym c.if-not-all-fit.true ∙ tested (goal.at.returns-then-not-all-fit c).After-all-fit ∙ h.2));
+          (λ h. false≢true (sym c.if-not-all_fit.true ∙ tested (goal.at.returns-then-not-all_fit c).After-all-fit ∙ h.2));
       room = search rules;
     }
 
@@ -61,7 +61,7 @@ settle-requires c =
     let few = simp length-map at c.requires.fit.items in
     let fit : prices_fit (world_of m).items (column c.args.bytes.now c.args.prices (length (world_of m).items))
     (column c.args.bytes.now (c.args.prices + 4) (length (world_of m).items)) ≡ true =
-    sym (tested (goal.at.settle-requires c).After-all-fit) ∙ c.if-not-all-fit.false in
+    sym (tested (goal.at.settle-requires c).After-all-fit) ∙ c.if-not-all_fit.false in
     let in_row : (a : ℕ) → a < vec_len m.accounts → a < length (world_of m).accounts = λ a h. simp length-map (search rules) in
     record {
       inside = search rules;
@@ -75,7 +75,7 @@ returns c =
     let m = c.args.market.now in
     let bs = c.args.bytes.now in
     let n : vec_len m.items ≡ length (map item_of (vec_items m.items)) = simp length-map m.items.ok.0 in
-    let fit = sym (tested (goal.at.returns c).After-all-fit) ∙ c.if-not-all-fit.false in
+    let fit = sym (tested (goal.at.returns c).After-all-fit) ∙ c.if-not-all_fit.false in
     let new : map item_of (vec_items c.renew.new.items) ≡
     world.new_items (column bs c.args.prices (length (world_of m).items)) (column bs (c.args.prices + 4) (length (world_of m).items)) =
     c.renew.ensures ∙ ap (λ k. world.new_items (column bs c.args.prices k) (column bs (c.args.prices + 4) k)) n in

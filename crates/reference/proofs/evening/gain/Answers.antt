@@ -11,8 +11,8 @@ use Rattle.reference.proofs.Settled.{rest, gain_more, gain_none}
 use Rattle.reference.proofs.evening.gain.Goals as goal
 use Rattle.reference.proofs.evening.gain.Goals.{After-change-sum}
 
-pub overflow-add-sum : goal.overflow-add-sum
-overflow-add-sum c = omega (arith, ints)
+pub overflow_add-sum : goal.overflow_add-sum
+overflow_add-sum c = omega (arith, ints)
 
 -- one turn: what this item adds, and the rest
 step : (c : goal.After-change-sum) →
@@ -28,7 +28,7 @@ step c =
     let h : held (account_of c.args.account.now) k ≡ c.index.result.now.held =
     read_map held_of (vec_items c.args.account.now.positions) k c.index.result.now (pos 0) in_row c.index.ensures in
     let b : to_z w64 (of_z w64 c.index.result.now.held) ≡ c.index.result.now.held = search (rules, to_z-of_z) in
-    let p : c.item-at-new.result.price ≡ four bs (c.args.at + 8 * k) = c.item-at-new.ensures.price in
+    let p : c.item_at-new.result.price ≡ four bs (c.args.at + 8 * k) = c.item_at-new.ensures.price in
     let v : c.change-sum.result ≡ held (account_of c.args.account.now) k *ℤ
     (pos (four bs (c.args.at + 8 * k)) -ℤ pos (get_or c.args.items.now k blank_item).price) = cc in
     gain_more bs c.args.at c.args.at (length c.args.items.now) c.args.items.now k (account_of c.args.account.now)

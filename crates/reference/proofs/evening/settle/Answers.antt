@@ -54,8 +54,8 @@ sum c =
     let w = c.requires.fits c.loop-a.a (omega (arith, c.len-a-end.ensures)) in
     (omega (arith, ints), (omega (arith, ints), omega (arith, ints)))
 
-pub overflow-cast-from : goal.overflow-cast-from
-overflow-cast-from c = let s = (sum c).1 in omega (arith, ints)
+pub overflow_cast-from : goal.overflow_cast-from
+overflow_cast-from c = let s = (sum c).1 in omega (arith, ints)
 
 pub loop-a-preserved : goal.loop-a-preserved
 loop-a-preserved c =
@@ -64,7 +64,7 @@ loop-a-preserved c =
     let new = paid (map item_of c.args.items.now) (column c.args.bytes.now c.args.at (length c.args.items.now)) xs in
     let long = length_paid (map item_of c.args.items.now) (column c.args.bytes.now c.args.at (length c.args.items.now)) xs in
     let l : c.loop-a.a < length (map account_of (vec_items c.args.accounts.now)) = simp length-map (search rules) in
-    let m = old (goal.at.loop-a-preserved c).After-index c.index-mut.result.now c.index-mut.ensures.value in
+    let m = old (goal.at.loop-a-preserved c).After-index c.index_mut.result.now c.index_mut.ensures.value in
     let p = paid_at (map item_of c.args.items.now) (column c.args.bytes.now c.args.at (length c.args.items.now)) xs c.loop-a.a
     l in
     let low = s.1 in

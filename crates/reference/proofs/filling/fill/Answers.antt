@@ -29,31 +29,31 @@ stand-requires c =
     let f = subst (λ m. Filling (world_of m) (order_of c.filling.o) (vec_capacity m.orders)) (sym c.loop-i.invariant.3) c.filling.invariant.1 in
     omega (arith, f.room, f.turn.room)
 
-pub comes-before-requires : goal.comes-before-requires
-comes-before-requires c = let l = simp length-map at c.loop-i.invariant.2 in rw c.deref.ensures.value (omega arith)
+pub comes_before-requires : goal.comes_before-requires
+comes_before-requires c = let l = simp length-map at c.loop-i.invariant.2 in rw c.deref.ensures.value (omega arith)
 
 -- one place further to the front
 stepped : (c : goal.After-comes-before) →
     best (order_of c.filling.o) (drop (c.loop-i.i - 1) (world_of c.loop-i.market).orders) ≡
-    world.pick c.comes-before.result 0 (c.loop-i.at - (c.loop-i.i - 1))
+    world.pick c.comes_before.result 0 (c.loop-i.at - (c.loop-i.i - 1))
 stepped c =
     let os = (world_of c.loop-i.market).orders in
     let s : c.loop-i.i ≡ suc (c.loop-i.i - 1) = omega arith in
-    let f : c.comes-before.result ≡ first_of (order_of c.filling.o) (world_of c.loop-i.market).orders (c.loop-i.i - 1) c.loop-i.at =
-    c.comes-before.ensures ∙ ap (λ xs. first_of (order_of c.filling.o) (map order_of xs) (c.loop-i.i - 1) c.loop-i.at)
+    let f : c.comes_before.result ≡ first_of (order_of c.filling.o) (world_of c.loop-i.market).orders (c.loop-i.i - 1) c.loop-i.at =
+    c.comes_before.ensures ∙ ap (λ xs. first_of (order_of c.filling.o) (map order_of xs) (c.loop-i.i - 1) c.loop-i.at)
     c.deref.ensures.value in
     let e = subst (λ i. c.loop-i.at ≡ i + best (order_of c.filling.o) (drop i (world_of c.loop-i.market).orders)) s c.loop-i.invariant.0 in
     rw f (best_more (order_of c.filling.o) os (c.loop-i.i - 1) c.loop-i.at (omega (arith, c.loop-i.invariant.2)) c.loop-i.invariant.1 e)
 
-pub loop-i-preserved-then-comes-before : goal.loop-i-preserved-then-comes-before
-loop-i-preserved-then-comes-before c =
-    let b = rw c.if-comes-before.true at (stepped (goal.at.loop-i-preserved-then-comes-before c).After-comes-before) in
+pub loop-i-preserved-then-comes_before : goal.loop-i-preserved-then-comes_before
+loop-i-preserved-then-comes_before c =
+    let b = rw c.if-comes_before.true at (stepped (goal.at.loop-i-preserved-then-comes_before c).After-comes-before) in
     let l = c.loop-i.invariant.2 in
     (omega arith, omega arith, omega arith, c.loop-i.invariant.3)
 
 pub loop-i-preserved : goal.loop-i-preserved
 loop-i-preserved c =
-    let b = rw c.if-comes-before.false at (stepped (goal.at.loop-i-preserved c).After-comes-before) in
+    let b = rw c.if-comes_before.false at (stepped (goal.at.loop-i-preserved c).After-comes-before) in
     let a = c.loop-i.invariant.0 in
     let k = c.loop-i.invariant.1 in
     let l = c.loop-i.invariant.2 in
@@ -161,8 +161,8 @@ turned c =
       less = (grind (arith, nat_tests), grind (arith, nat_tests));
     }
 
-pub push-reserved-requires : goal.push-reserved-requires
-push-reserved-requires c = omega (arith, (turned (goal.at.push-reserved-requires c).After-trade).room)
+pub push_reserved-requires : goal.push_reserved-requires
+push_reserved-requires c = omega (arith, (turned (goal.at.push_reserved-requires c).After-trade).room)
 
 pub filling-smaller : goal.filling-smaller
 filling-smaller c = let t = (turned (goal.at.filling-smaller c).After-trade).less in omega (arith, t.0, t.1)
@@ -172,10 +172,10 @@ unfolding less_left
 filling-preserved c =
     let t = turned (goal.at.filling-preserved c).After-trade in
     let rs = map report_of (vec_items c.filling.reports) in
-    let p : map report_of (vec_items c.push-reserved.new.self) ≡
+    let p : map report_of (vec_items c.push_reserved.new.self) ≡
     map report_of (vec_items c.filling.reports) ++ world.trade c.filling.o.number c.index.result.now.number c.filling.o.item
     c.index.result.now.price c.if-o-r.x ∷ [] =
-    ap (map report_of) c.push-reserved.ensures.items ∙ map_push report_of (vec_items c.filling.reports) _ in
+    ap (map report_of) c.push_reserved.ensures.items ∙ map_push report_of (vec_items c.filling.reports) _ in
     let s : after (map report_of (vec_items c.filling.reports)) (filled (world_of c.loop-i.market) (order_of c.filling.o)) ≡
     after (map report_of (vec_items c.args.reports.now)) (filled (world_of c.args.market.now) (order_of c.args.order)) =
     subst (λ m. after (map report_of (vec_items c.filling.reports)) (filled (world_of m) (order_of c.filling.o)) ≡
@@ -183,9 +183,9 @@ filling-preserved c =
     (sym c.loop-i.invariant.3) c.filling.invariant.0 in (
       rw (p, ← after_more, ← t.is) s,
       t.goes,
-      omega (arith, t.room, c.push-reserved.ensures.len, c.push-reserved.ensures.capacity),
+      omega (arith, t.room, c.push_reserved.ensures.len, c.push_reserved.ensures.capacity),
       c.trade.ensures.room ∙ ap (λ m. vec_capacity m.orders) c.loop-i.invariant.3 ∙ c.filling.invariant.3,
-      c.push-reserved.ensures.capacity ∙ c.filling.invariant.4,
+      c.push_reserved.ensures.capacity ∙ c.filling.invariant.4,
     )
 
 pub returns-after-filling : goal.returns-after-filling

@@ -10,16 +10,16 @@ use Rattle.reference.proofs.morning.smaller.Goals.{After-traded-size}
 -- the size, and that it is small
 size : (c : goal.After-traded-size) → (c.traded-size.result ≡ lesser (abs c.args.h) (abs c.args.g)) × (c.traded-size.result ≤ 2147483648)
 size c =
-    let a : c.unsigned-abs.result ≡ abs c.args.h = c.unsigned-abs.ensures.value ∙ ap nat_abs (to_z-of_z w64 c.args.h c.ranges.h) ∙ sym
+    let a : c.unsigned_abs.result ≡ abs c.args.h = c.unsigned_abs.ensures.value ∙ ap nat_abs (to_z-of_z w64 c.args.h c.ranges.h) ∙ sym
     (abs_is c.args.h) in
-    let b : c.unsigned-abs-2.result ≡ abs c.args.g = c.unsigned-abs-2.ensures.value ∙ ap nat_abs (to_z-of_z w64 c.args.g c.ranges.g) ∙
+    let b : c.unsigned_abs-2.result ≡ abs c.args.g = c.unsigned_abs-2.ensures.value ∙ ap nat_abs (to_z-of_z w64 c.args.g c.ranges.g) ∙
     sym (abs_is c.args.g) in
-    let l : c.traded-size.result ≤ c.unsigned-abs.result = grind (arith, nat_tests) in
-    let m : c.unsigned-abs.result ≤ 2147483648 = omega (arith, ints, c.unsigned-abs.ensures.value, c.requires.small.0.0, c.requires.small.0.1) in
+    let l : c.traded-size.result ≤ c.unsigned_abs.result = grind (arith, nat_tests) in
+    let m : c.unsigned_abs.result ≤ 2147483648 = omega (arith, ints, c.unsigned_abs.ensures.value, c.requires.small.0.0, c.requires.small.0.1) in
     (rw (← a, ← b) c.traded-size.ensures, omega arith)
 
-pub overflow-cast-size : goal.overflow-cast-size
-overflow-cast-size c = let s = (size c).1 in omega (arith, ints)
+pub overflow_cast-size : goal.overflow_cast-size
+overflow_cast-size c = let s = (size c).1 in omega (arith, ints)
 
 pub returns-then-h-lt0 : goal.returns-then-h-lt0
 returns-then-h-lt0 c =

@@ -10,9 +10,9 @@ use Rattle.reference.proofs.morning.tear_account.Goals as goal
 pub covers-requires : goal.covers-requires
 covers-requires c = record { here = c.requires.here; fit = morning_fit (world_of c.args.market.now) c.requires.morning.0 c.requires.morning.1 }
 
-pub tear-items-requires : goal.tear-items-requires
+pub tear_items-requires : goal.tear_items-requires
 unfolding torn_account
-tear-items-requires c =
+tear_items-requires c =
     let e = sym c.covers.ensures ∙ c.if-not-covers.true in
     record { here = c.requires.here; morning = c.requires.morning; room = rw e at c.requires.room }
 

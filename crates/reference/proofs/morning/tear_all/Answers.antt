@@ -13,11 +13,11 @@ loop-a-init c =
     rw e (begins (world.tear_all (length (world_of c.args.market.now).accounts) 0 (world_of c.args.market.now)) c.args.market.now
     c.args.reports.now c.requires.morning.0 c.requires.room)
 
-pub overflow-cast-a : goal.overflow-cast-a
-overflow-cast-a c = let g = simp length-map at c.requires.morning.1.accounts in search rules
+pub overflow_cast-a : goal.overflow_cast-a
+overflow_cast-a c = let g = simp length-map at c.requires.morning.1.accounts in search rules
 
-pub tear-account-requires : goal.tear-account-requires
-tear-account-requires c =
+pub tear_account-requires : goal.tear_account-requires
+tear_account-requires c =
     let o = c.loop-a.invariant.onward in
     let l : c.loop-a.a < (length (world_of c.args.market.now).accounts) = simp length-map (search rules) in
     let a = o.accounts in
@@ -51,10 +51,10 @@ loop-a-preserved c =
     (world.tear_all ((length (world_of c.args.market.now).accounts) - c.loop-a.a) c.loop-a.a (world_of c.loop-a.market))
     (torn_account (world_of c.loop-a.market) c.loop-a.a)
     (λ v. world.tear_all ((length (world_of c.args.market.now).accounts) - (c.loop-a.a + 1)) (c.loop-a.a + 1) v) c.loop-a.market
-    c.args.market.now c.tear-account.new.market c.loop-a.reports c.args.reports.now c.tear-account.new.reports
+    c.args.market.now c.tear_account.new.market c.loop-a.reports c.args.reports.now c.tear_account.new.reports
     c.loop-a.invariant (all_from (length (world_of c.args.market.now).accounts) c.loop-a.a (world_of c.loop-a.market) l)
-    c.tear-account.ensures.after (onward_account (world_of c.loop-a.market) c.loop-a.a o.morning (omega arith))
-    c.tear-account.ensures.room.0 c.tear-account.ensures.room.1
+    c.tear_account.ensures.after (onward_account (world_of c.loop-a.market) c.loop-a.a o.morning (omega arith))
+    c.tear_account.ensures.room.0 c.tear_account.ensures.room.1
 
 pub returns : goal.returns
 returns c =

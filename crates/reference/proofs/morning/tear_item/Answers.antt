@@ -13,11 +13,11 @@ loop-b-init c =
     rw e (begins (world.tear (length (world_of c.args.market.now).accounts) 0 c.args.a c.args.k (world_of c.args.market.now))
     c.args.market.now c.args.reports.now c.requires.morning.0 c.requires.room)
 
-pub overflow-cast-b : goal.overflow-cast-b
-overflow-cast-b c = let g = simp length-map at c.requires.morning.1.accounts in search rules
+pub overflow_cast-b : goal.overflow_cast-b
+overflow_cast-b c = let g = simp length-map at c.requires.morning.1.accounts in search rules
 
-pub tear-with-requires : goal.tear-with-requires
-tear-with-requires c =
+pub tear_with-requires : goal.tear_with-requires
+tear_with-requires c =
     let o = c.loop-b.invariant.onward in
     let l : c.loop-b.b < (length (world_of c.args.market.now).accounts) = simp length-map (search rules) in
     let a = o.accounts in
@@ -45,13 +45,13 @@ loop-b-preserved c =
     (world.tear ((length (world_of c.args.market.now).accounts) - c.loop-b.b) c.loop-b.b c.args.a c.args.k
     (world_of c.loop-b.market)) (torn_one (world_of c.loop-b.market) c.args.a c.loop-b.b c.args.k)
     (λ v. world.tear ((length (world_of c.args.market.now).accounts) - (c.loop-b.b + 1)) (c.loop-b.b + 1) c.args.a c.args.k v)
-    c.loop-b.market c.args.market.now c.tear-with.new.market c.loop-b.reports c.args.reports.now
-    c.tear-with.new.reports
+    c.loop-b.market c.args.market.now c.tear_with.new.market c.loop-b.reports c.args.reports.now
+    c.tear_with.new.reports
     c.loop-b.invariant (tear_from (length (world_of c.args.market.now).accounts) c.loop-b.b c.args.a c.args.k
-    (world_of c.loop-b.market) l) c.tear-with.ensures.after
+    (world_of c.loop-b.market) l) c.tear_with.ensures.after
     (onward_one (world_of c.loop-b.market) c.args.a c.loop-b.b c.args.k o.morning (omega (arith, c.requires.here.0))
     (omega arith) (omega (arith, c.requires.here.1)))
-    c.tear-with.ensures.room.0 c.tear-with.ensures.room.1
+    c.tear_with.ensures.room.0 c.tear_with.ensures.room.1
 
 pub returns : goal.returns
 returns c =

@@ -13,11 +13,11 @@ loop-k-init c =
     rw e (begins (world.tear_items (length (world_of c.args.market.now).items) 0 c.args.a (world_of c.args.market.now))
     c.args.market.now c.args.reports.now c.requires.morning.0 c.requires.room)
 
-pub overflow-cast-k : goal.overflow-cast-k
-overflow-cast-k c = let g = simp length-map at c.requires.morning.1.items in search rules
+pub overflow_cast-k : goal.overflow_cast-k
+overflow_cast-k c = let g = simp length-map at c.requires.morning.1.items in search rules
 
-pub tear-item-requires : goal.tear-item-requires
-tear-item-requires c =
+pub tear_item-requires : goal.tear_item-requires
+tear_item-requires c =
     let o = c.loop-k.invariant.onward in
     let l : c.loop-k.k < (length (world_of c.args.market.now).items) = simp length-map (search rules) in
     let a = o.accounts in
@@ -53,12 +53,12 @@ loop-k-preserved c =
     (world.tear_items ((length (world_of c.args.market.now).items) - c.loop-k.k) c.loop-k.k c.args.a
     (world_of c.loop-k.market)) (world.tear (length (world_of c.loop-k.market).accounts) 0 c.args.a c.loop-k.k
     (world_of c.loop-k.market)) (λ v. world.tear_items ((length (world_of c.args.market.now).items) - (c.loop-k.k + 1))
-    (c.loop-k.k + 1) c.args.a v) c.loop-k.market c.args.market.now c.tear-item.new.market c.loop-k.reports
-    c.args.reports.now c.tear-item.new.reports
+    (c.loop-k.k + 1) c.args.a v) c.loop-k.market c.args.market.now c.tear_item.new.market c.loop-k.reports
+    c.args.reports.now c.tear_item.new.reports
     c.loop-k.invariant (items_from (length (world_of c.args.market.now).items) c.loop-k.k c.args.a (world_of c.loop-k.market) l)
-    c.tear-item.ensures.after (onward_item (world_of c.loop-k.market) c.args.a c.loop-k.k o.morning
+    c.tear_item.ensures.after (onward_item (world_of c.loop-k.market) c.args.a c.loop-k.k o.morning
     (omega (arith, c.requires.here)) (omega arith))
-    c.tear-item.ensures.room.0 c.tear-item.ensures.room.1
+    c.tear_item.ensures.room.0 c.tear_item.ensures.room.1
 
 pub returns : goal.returns
 returns c =

@@ -18,23 +18,23 @@ use Rattle.reference.proofs.morning.tear_with.Goals.{Start, After-opposite, Afte
 roomy : (c : goal.Start) → Roomy 1125899906842624 2147483648 (world_of c.args.market.now)
 roomy c = tearing_roomy c.requires.morning.limits (world_of c.args.market.now) c.requires.morning.small c.requires.morning.tearing
 
-pub held-of-mine-requires : goal.held-of-mine-requires
-held-of-mine-requires c = record { here = (c.requires.here.0, c.requires.here.1.1); roomy = roomy (goal.at.held-of-mine-requires c).Start }
+pub held_of-mine-requires : goal.held_of-mine-requires
+held_of-mine-requires c = record { here = (c.requires.here.0, c.requires.here.1.1); roomy = roomy (goal.at.held_of-mine-requires c).Start }
 
-pub held-of-other-requires : goal.held-of-other-requires
-held-of-other-requires c = record { here = (c.requires.here.1.0, c.requires.here.1.1); roomy = roomy (goal.at.held-of-other-requires c).Start }
+pub held_of-other-requires : goal.held_of-other-requires
+held_of-other-requires c = record { here = (c.requires.here.1.0, c.requires.here.1.1); roomy = roomy (goal.at.held_of-other-requires c).Start }
 
 -- the test, in the plain market's words
 tested : (c : goal.After-opposite) → c.opposite.result ≡
     opposite (held (account (world_of c.args.market.now) c.args.a) c.args.k)
     (held (account (world_of c.args.market.now) c.args.b) c.args.k)
 tested c =
-    let f : SFits w64 c.held-of-mine.result = search rules in
-    let g : SFits w64 c.held-of-other.result = search rules in
-    let x = to_z-of_z w64 c.held-of-mine.result f in
-    let y = to_z-of_z w64 c.held-of-other.result g in
-    let m = c.held-of-mine.ensures.value in
-    let n = c.held-of-other.ensures.value in
+    let f : SFits w64 c.held_of-mine.result = search rules in
+    let g : SFits w64 c.held_of-other.result = search rules in
+    let x = to_z-of_z w64 c.held_of-mine.result f in
+    let y = to_z-of_z w64 c.held_of-other.result g in
+    let m = c.held_of-mine.ensures.value in
+    let n = c.held_of-other.ensures.value in
     cc
 
 pub returns-then-not-opposite : goal.returns-then-not-opposite
@@ -119,14 +119,14 @@ stepped : (c : goal.After-gets-2) → torn_one (world_of c.args.market.now) c.ar
     (world_of c.gets-2.new.market, torn c.args.a c.args.b c.args.k c.smaller-held.result ∷ [])
 stepped c =
     let w = world_of c.args.market.now in
-    let f : SFits w64 c.held-of-mine.result = search rules in
-    let g : SFits w64 c.held-of-other.result = search rules in
+    let f : SFits w64 c.held_of-mine.result = search rules in
+    let g : SFits w64 c.held_of-other.result = search rules in
     let d : SFits w64 c.smaller-held.result = search rules in
-    let x = to_z-of_z w64 c.held-of-mine.result f in
-    let y = to_z-of_z w64 c.held-of-other.result g in
+    let x = to_z-of_z w64 c.held_of-mine.result f in
+    let y = to_z-of_z w64 c.held_of-other.result g in
     let z = to_z-of_z w64 c.smaller-held.result d in
-    let m = c.held-of-mine.ensures.value in
-    let n = c.held-of-other.ensures.value in
+    let m = c.held_of-mine.ensures.value in
+    let n = c.held_of-other.ensures.value in
     let v = c.smaller-held.ensures.value in
     let e = c.gets-2.ensures.after in
     torn_made w (world_of c.gets.new.market) (world_of c.gets-2.new.market) c.args.a c.args.b c.args.k
@@ -134,9 +134,9 @@ stepped c =
     (sym (tested (goal.at.After-gets-2 c).After-opposite) ∙ c.if-not-opposite.false) (cc) refl (priced (goal.at.After-gets-2 c).After-index).0
     (first_half (goal.at.After-gets-2 c).After-gets) (cc)
 
-pub push-reserved-requires : goal.push-reserved-requires
-push-reserved-requires c =
-    let l = ap (λ p. length p.1) (stepped (goal.at.push-reserved-requires c).After-gets-2) in
+pub push_reserved-requires : goal.push_reserved-requires
+push_reserved-requires c =
+    let l = ap (λ p. length p.1) (stepped (goal.at.push_reserved-requires c).After-gets-2) in
     omega (arith, c.requires.room)
 
 pub returns : goal.returns
@@ -145,11 +145,11 @@ returns c =
     let t = stepped (goal.at.returns c).After-gets-2 in
     let d : SFits w64 c.smaller-held.result = search rules in
     let z = to_z-of_z w64 c.smaller-held.result d in
-    let p : map report_of (vec_items c.push-reserved.new.self) ≡ map report_of (vec_items c.args.reports.now) ++ torn c.args.a
+    let p : map report_of (vec_items c.push_reserved.new.self) ≡ map report_of (vec_items c.args.reports.now) ++ torn c.args.a
     c.args.b c.args.k c.smaller-held.result ∷ [] =
-    ap (map report_of) c.push-reserved.ensures.items ∙ map_push report_of (vec_items c.args.reports.now) _ ∙
+    ap (map report_of) c.push_reserved.ensures.items ∙ map_push report_of (vec_items c.args.reports.now) _ ∙
     ap (λ s. map report_of (vec_items c.args.reports.now) ++ torn c.args.a c.args.b c.args.k s ∷ []) z in
     record {
       after = rw (p, t);
-      room = (c.gets-2.ensures.room ∙ c.gets.ensures.room, c.push-reserved.ensures.capacity);
+      room = (c.gets-2.ensures.room ∙ c.gets.ensures.room, c.push_reserved.ensures.capacity);
     }

@@ -6,18 +6,18 @@ use Rattle.reference.proofs.Places.{read_map}
 use Rattle.reference.proofs.Products.{account_same}
 use Rattle.reference.proofs.moves.carry.Goals as goal
 
-pub overflow-add-index-mut : goal.overflow-add-index-mut
-overflow-add-index-mut c =
+pub overflow_add-index_mut : goal.overflow_add-index_mut
+overflow_add-index_mut c =
     let ps = vec_items c.args.account.now.positions in
     let h : c.args.item < length ps = search rules in
-    let r : get_or (map held_of ps) c.args.item (pos 0) ≡ c.index-mut.result.now.held =
-    read_map held_of ps c.args.item c.index-mut.result.now (pos 0) h c.index-mut.ensures.value in
+    let r : get_or (map held_of ps) c.args.item (pos 0) ≡ c.index_mut.result.now.held =
+    read_map held_of ps c.args.item c.index_mut.result.now (pos 0) h c.index_mut.ensures.value in
     omega (arith, ints)
 
 pub returns : goal.returns
 returns c =
     let ps = vec_items c.args.account.now.positions in
     let h : c.args.item < length ps = search rules in
-    let r : get_or (map held_of ps) c.args.item (pos 0) ≡ c.index-mut.result.now.held =
-    read_map held_of ps c.args.item c.index-mut.result.now (pos 0) h c.index-mut.ensures.value in
+    let r : get_or (map held_of ps) c.args.item (pos 0) ≡ c.index_mut.result.now.held =
+    read_map held_of ps c.args.item c.index_mut.result.now (pos 0) h c.index_mut.ensures.value in
     account_same (omega (arith, ints)) (simp map-set (ap (set (map held_of ps) c.args.item) (omega (arith, ints))))

@@ -11,12 +11,12 @@ pub returns-then-buying : goal.returns-then-buying
 unfolding buy_loss sell_loss
 returns-then-buying c =
     let l : c.from-left.result ≤ 4294967296 = omega arith in
-    let s : c.saturating-sub.result ≤ 8589934592 = omega arith in
+    let s : c.saturating_sub.result ≤ 8589934592 = omega arith in
     record { buys = grind (arith, nat_tests); sells = grind (arith, nat_tests); bound = (omega (arith, mul-le-mul l s), omega arith) }
 
 pub returns-else-buying : goal.returns-else-buying
 unfolding buy_loss sell_loss
 returns-else-buying c =
     let l : c.from-left.result ≤ 4294967296 = omega arith in
-    let s : c.saturating-sub-else-buying.result ≤ 8589934592 = omega arith in
+    let s : c.saturating_sub-else-buying.result ≤ 8589934592 = omega arith in
     record { buys = grind (arith, nat_tests); sells = grind (arith, nat_tests); bound = (omega arith, omega (arith, mul-le-mul l s)) }

@@ -17,7 +17,7 @@ loop-k-preserved c =
     let h : held (account_of c.args.of.now) c.loop-k.k ≡ c.index.result.now.held =
     read_map held_of (vec_items c.args.of.now.positions) c.loop-k.k c.index.result.now (pos 0) in_row c.index.ensures in
     let b : to_z w64 (of_z w64 c.index.result.now.held) ≡ c.index.result.now.held = search (rules, to_z-of_z) in
-    let v : c.need-in-sum.result ≡ need_in c.args.account c.loop-k.k (item_of (get_or c.args.items.now c.loop-k.k blank_item))
+    let v : c.need_in-sum.result ≡ need_in c.args.account c.loop-k.k (item_of (get_or c.args.items.now c.loop-k.k blank_item))
     (held (account_of c.args.of.now) c.loop-k.k) (map order_of c.args.orders.now) = cc in
     (omega (arith, ints), (omega (arith, ints), omega (arith, ints)))
 

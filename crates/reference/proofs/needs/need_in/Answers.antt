@@ -9,12 +9,12 @@ use Rattle.reference.proofs.needs.need_in.Goals.{After-swing-swing}
 
 parts : (c : goal.After-swing-swing) →
     need_in c.args.account c.args.k (item_of c.args.item) c.args.held (map order_of c.args.orders.now) ≡
-    larger (c.swing-swing.result +ℤ pos c.losses-of-losses.result.buys)
-    (neg_ℤ c.swing-swing.result +ℤ pos c.losses-of-losses.result.sells)
+    larger (c.swing-swing.result +ℤ pos c.losses_of-losses.result.buys)
+    (neg_ℤ c.swing-swing.result +ℤ pos c.losses_of-losses.result.sells)
 parts c =
     let a = to_z-of_z w64 c.args.held c.ranges.held in
     let e : c.swing-swing.result ≡ c.args.held *ℤ pos c.args.item.band = cc in
-    need_in_is _ _ _ _ _ _ _ _ e c.losses-of-losses.ensures.buys c.losses-of-losses.ensures.sells
+    need_in_is _ _ _ _ _ _ _ _ e c.losses_of-losses.ensures.buys c.losses_of-losses.ensures.sells
 
 pub returns-then-falls-rises : goal.returns-then-falls-rises
 unfolding larger

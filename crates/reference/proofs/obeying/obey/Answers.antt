@@ -4,8 +4,8 @@ use Rattle.reference.proofs.Empty.{after_nothing}
 use Rattle.reference.proofs.Ranges.{standing_fit, standing_morning, standing_settles, standing_sizes}
 use Rattle.reference.proofs.obeying.obey.Goals as goal
 
-pub pay-in-requires : goal.pay-in-requires
-pay-in-requires c =
+pub pay_in-requires : goal.pay_in-requires
+pay_in-requires c =
     let s = c.requires.standing in
     record {
       fit = standing_fit (limits_of c.args.limits s.0) (world_of c.args.market.now) (vec_capacity c.args.market.now.orders)
@@ -13,8 +13,8 @@ pay-in-requires c =
       limit = s.1.sized.money;
     }
 
-pub pay-out-requires : goal.pay-out-requires
-pay-out-requires c =
+pub pay_out-requires : goal.pay_out-requires
+pay_out-requires c =
     let s = c.requires.standing in
     record {
       fit = standing_fit (limits_of c.args.limits s.0) (world_of c.args.market.now) (vec_capacity c.args.market.now.orders)
@@ -32,8 +32,8 @@ place-requires c =
       room = λ k. let r = rw c.in-Place.is at (c.requires.room k) in omega (arith, c.requires.none.0);
     }
 
-pub end-day-requires : goal.end-day-requires
-end-day-requires c =
+pub end_day-requires : goal.end_day-requires
+end_day-requires c =
     let s = c.requires.standing in
     record {
       fit = standing_fit (limits_of c.args.limits s.0) (world_of c.args.market.now) (vec_capacity c.args.market.now.orders) s.1;
@@ -41,8 +41,8 @@ end-day-requires c =
           (vec_capacity c.args.market.now.orders) s.1;
     }
 
-pub begin-day-requires : goal.begin-day-requires
-begin-day-requires c =
+pub begin_day-requires : goal.begin_day-requires
+begin_day-requires c =
     let s = c.requires.standing in
     record {
       morning = (

@@ -17,6 +17,6 @@ returns c =
     let here : c.args.account < vec_len c.args.market.now.accounts = let g = simp length-map at c.requires.here in search rules in
     let r = ap (λ y. y.cash) (account_read c.args.market.now c.args.account c.index.result.now here
     (rw c.from.ensures at c.index.ensures)) in
-    let a : to_z w128 (of_z w128 c.need-of.result) ≡ goal w c.args.account w.orders = omega (arith, ints, c.need-of.ensures.value) in
+    let a : to_z w128 (of_z w128 c.need_of.result) ≡ goal w c.args.account w.orders = omega (arith, ints, c.need_of.ensures.value) in
     let b : to_z w128 (of_z w128 c.from-2.result) ≡ (account w c.args.account).cash = omega (arith, ints) in
     rw (a, b)

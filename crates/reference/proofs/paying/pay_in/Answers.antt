@@ -17,11 +17,11 @@ returns-then-a-len c =
       room = search rules;
     }
 
-pub returns-in-default : goal.returns-in-default
-returns-in-default c =
+pub returns-in_default : goal.returns-in_default
+returns-in_default c =
     record {
       after = λ k. not_paid_in (limits_of c.args.limits k) (world_of c.args.market.now) c.args.account c.args.amount
-          (λ h. let i = h.2 in c.in-default.ensures (omega (arith, c.requires.limit)));
+          (λ h. let i = h.2 in c.in_default.ensures (omega (arith, c.requires.limit)));
       room = search rules;
     }
 
@@ -33,16 +33,16 @@ returns-then-money-limits c =
       room = search rules;
     }
 
-read : (c : goal.After-index-mut) → account (world_of c.args.market.now) c.args.account ≡ account_of c.index-mut.result.now
+read : (c : goal.After-index-mut) → account (world_of c.args.market.now) c.args.account ≡ account_of c.index_mut.result.now
 read c =
     let here : c.args.account < vec_len c.args.market.now.accounts = search rules in
-    account_read c.args.market.now c.args.account c.index-mut.result.now here
-    (rw c.from-a.ensures at c.index-mut.ensures.value)
+    account_read c.args.market.now c.args.account c.index_mut.result.now here
+    (rw c.from-a.ensures at c.index_mut.ensures.value)
 
-pub overflow-add-index-mut : goal.overflow-add-index-mut
-overflow-add-index-mut c =
+pub overflow_add-index_mut : goal.overflow_add-index_mut
+overflow_add-index_mut c =
     let here : c.args.account < vec_len c.args.market.now.accounts = search rules in
-    let m = rw (read (goal.at.overflow-add-index-mut c).After-index-mut) at (c.requires.fit.roomy.cash c.args.account (simp length-map (search rules))) in
+    let m = rw (read (goal.at.overflow_add-index_mut c).After-index-mut) at (c.requires.fit.roomy.cash c.args.account (simp length-map (search rules))) in
     omega (arith, ints, c.in-Some.ensures.1, c.requires.limit)
 
 pub returns : goal.returns
@@ -52,7 +52,7 @@ returns c =
     let r = read (goal.at.returns c).After-index-mut in
     let m = rw r at (c.requires.fit.roomy.cash c.args.account (simp length-map (search rules))) in
     let x : c.in-Some.money ≡ c.args.market.now.money + c.args.amount = c.in-Some.ensures.1 in
-    let cash : to_z w64 (of_z w64 (to_z w64 (of_z w64 c.index-mut.result.now.cash) +ℤ to_z w64 c.args.amount)) ≡ c.index-mut.result.now.cash
+    let cash : to_z w64 (of_z w64 (to_z w64 (of_z w64 c.index_mut.result.now.cash) +ℤ to_z w64 c.args.amount)) ≡ c.index_mut.result.now.cash
     +ℤ pos c.args.amount =
     omega (arith, ints, c.requires.limit) in
     record {
@@ -60,7 +60,7 @@ returns c =
           paid_in (limits_of c.args.limits k) (world_of c.args.market.now) c.args.account c.args.amount
           (simp length-map (search rules), omega arith, omega (arith, x)) ∙
           ap (λ v. (v, done 0 ∷ []))
-          (paid_world c.args.market.now c.args.account c.from-a.result c.index-mut.result.now _ _ _ _ r c.from-a.ensures
+          (paid_world c.args.market.now c.args.account c.from-a.result c.index_mut.result.now _ _ _ _ r c.from-a.ensures
           (ap (λ y. y.cash +ℤ pos c.args.amount) r ∙ sym cash) (sym x));
       room = search rules;
     }

@@ -18,8 +18,8 @@ returns-then-a-len c =
       room = search rules;
     }
 
-pub need-of-requires : goal.need-of-requires
-need-of-requires c = record { here = simp length-map (search rules); fit = c.requires.fit }
+pub need_of-requires : goal.need_of-requires
+need_of-requires c = record { here = simp length-map (search rules); fit = c.requires.fit }
 
 -- the account that was read, and what it may lose
 read : (c : goal.After-need-of) → account (world_of c.args.market.now) c.args.account ≡ account_of c.index.result.now
@@ -31,7 +31,7 @@ read c =
 record Counted (c : goal.After-need-of) : Type 0 where
   is : (account (world_of c.args.market.now) c.args.account).cash ≡ c.index.result.now.cash
   high : c.index.result.now.cash ≤ℤ pos 1125899906842624
-  low : pos 0 ≤ℤ c.need-of.result
+  low : pos 0 ≤ℤ c.need_of.result
   here : c.args.account < length (world_of c.args.market.now).accounts
 
 counted : (c : goal.After-need-of) → Counted c
@@ -46,41 +46,41 @@ counted c =
         arith,
         ints,
         need_0 (world_of c.args.market.now) c.args.account (world_of c.args.market.now).orders,
-        c.need-of.ensures.value,
+        c.need_of.ensures.value,
       );
     }
 
-pub returns-then-need-of-from : goal.returns-then-need-of-from
-returns-then-need-of-from c =
-    let k = counted (goal.at.returns-then-need-of-from c).After-need-of in
+pub returns-then-need_of-from : goal.returns-then-need_of-from
+returns-then-need_of-from c =
+    let k = counted (goal.at.returns-then-need_of-from c).After-need-of in
     let r = k.is in
     record {
       after = λ b. not_paid_out (limits_of c.args.limits b) (world_of c.args.market.now) c.args.account c.args.amount
-          (λ h. let i = h.2 in omega (arith, ints, c.need-of.ensures.value));
+          (λ h. let i = h.2 in omega (arith, ints, c.need_of.ensures.value));
       room = search rules;
     }
 
-pub overflow-cast-amount : goal.overflow-cast-amount
-overflow-cast-amount c = let k = counted (goal.at.overflow-cast-amount c).After-need-of in omega (arith, ints, k.high, k.low)
+pub overflow_cast-amount : goal.overflow_cast-amount
+overflow_cast-amount c = let k = counted (goal.at.overflow_cast-amount c).After-need-of in omega (arith, ints, k.high, k.low)
 
-pub overflow-sub-cash : goal.overflow-sub-cash
-overflow-sub-cash c = let k = counted (goal.at.overflow-sub-cash c).After-need-of in omega (arith, ints, k.high, k.low)
+pub overflow_sub-cash : goal.overflow_sub-cash
+overflow_sub-cash c = let k = counted (goal.at.overflow_sub-cash c).After-need-of in omega (arith, ints, k.high, k.low)
 
 pub returns : goal.returns
 unfolding with_money with_account
 returns c =
     let k = counted (goal.at.returns c).After-need-of in
-    let r = account_read c.args.market.now c.args.account c.index-mut.result.now (search rules)
-    (rw c.from-a.ensures at c.index-mut.ensures.value) in
+    let r = account_read c.args.market.now c.args.account c.index_mut.result.now (search rules)
+    (rw c.from-a.ensures at c.index_mut.ensures.value) in
     let cash : (account (world_of c.args.market.now) c.args.account).cash -ℤ pos c.args.amount ≡
     to_z w64 (of_z w64 (to_z w64 (of_z w64 c.index.result.now.cash) -ℤ to_z w64 c.args.amount)) =
     omega (arith, ints, k.is, k.high, k.low) in
     record {
       after = λ b.
           paid_out (limits_of c.args.limits b) (world_of c.args.market.now) c.args.account c.args.amount
-          (k.here, omega arith, omega (arith, ints, k.is, k.high, k.low, c.need-of.ensures.value)) ∙
+          (k.here, omega arith, omega (arith, ints, k.is, k.high, k.low, c.need_of.ensures.value)) ∙
           ap (λ v. (v, done 0 ∷ []))
-          (paid_world c.args.market.now c.args.account c.from-a.result c.index-mut.result.now _ _ _ _ r c.from-a.ensures
-          cash (sym c.saturating-sub-market.ensures));
+          (paid_world c.args.market.now c.args.account c.from-a.result c.index_mut.result.now _ _ _ _ r c.from-a.ensures
+          cash (sym c.saturating_sub-market.ensures));
       room = search rules;
     }

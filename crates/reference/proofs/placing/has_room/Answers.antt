@@ -7,18 +7,18 @@ use Rattle.reference.specs.Means.{world_of, order_of}
 use Rattle.reference.proofs.Products.{abs_is}
 use Rattle.reference.proofs.placing.has_room.Goals as goal
 
-pub held-of-held-requires : goal.held-of-held-requires
-held-of-held-requires c = record { here = c.requires.here; roomy = c.requires.fit.roomy }
+pub held_of-held-requires : goal.held_of-held-requires
+held_of-held-requires c = record { here = c.requires.here; roomy = c.requires.fit.roomy }
 
 pub standing-requires : goal.standing-requires
 standing-requires c = let g = simp length-map at c.requires.fit.orders in search rules
 
 pub returns : goal.returns
 returns c =
-    let z : to_z w64 (of_z w64 c.held-of-held.result) ≡ c.held-of-held.result = search (rules, to_z-of_z) in
-    let a : c.unsigned-abs.result ≡ abs (held (account (world_of c.args.market.now) c.args.order.now.account)
+    let z : to_z w64 (of_z w64 c.held_of-held.result) ≡ c.held_of-held.result = search (rules, to_z-of_z) in
+    let a : c.unsigned_abs.result ≡ abs (held (account (world_of c.args.market.now) c.args.order.now.account)
     c.args.order.now.item) =
-    c.unsigned-abs.ensures.value ∙ ap nat_abs (z ∙ c.held-of-held.ensures.value) ∙ sym (abs_is _) in
+    c.unsigned_abs.ensures.value ∙ ap nat_abs (z ∙ c.held_of-held.ensures.value) ∙ sym (abs_is _) in
     let t : c.standing.result ≡ world.standing c.args.order.now.account c.args.order.now.item
     (map order_of (vec_items c.args.market.now.orders)) =
     c.standing.ensures.value ∙ ap (λ os. world.standing c.args.order.now.account c.args.order.now.item (map order_of os))

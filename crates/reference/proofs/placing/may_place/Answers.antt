@@ -13,43 +13,43 @@ well : (c : goal.Else-not-is-well-formed) →
 well c =
     well_tells (limits_of c.args.limits (λ k. true)) (world_of c.args.market.now) c.args.order.account c.args.order.item
     c.args.order.price c.args.order.left
-    (sym (c.is-well-formed.ensures (λ k. true)) ∙ c.if-not-is-well-formed.false)
+    (sym (c.is_well_formed.ensures (λ k. true)) ∙ c.if-not-is_well_formed.false)
 
-pub returns-then-not-is-well-formed : goal.returns-then-not-is-well-formed
-returns-then-not-is-well-formed c =
+pub returns-then-not-is_well_formed : goal.returns-then-not-is_well_formed
+returns-then-not-is_well_formed c =
     record {
       value = λ k.
           let z = limits_of c.args.limits k in
           let e : well_formed (limits_of c.args.limits k) (world_of c.args.market.now) c.args.order.account c.args.order.item
           c.args.order.price c.args.order.left ≡ false =
-          sym (c.is-well-formed.ensures k) ∙ c.if-not-is-well-formed.true in
+          sym (c.is_well_formed.ensures k) ∙ c.if-not-is_well_formed.true in
           sym (may_is z (world_of c.args.market.now) c.args.order.account c.args.order.item c.args.order.price
           c.args.order.left (side_of c.args.order.side) ∙ rw e);
       same = refl;
       room = refl;
     }
 
-pub has-room-requires : goal.has-room-requires
-has-room-requires c =
-    let w = well (goal.at.has-room-requires c).Else-not-is-well-formed in
+pub has_room-requires : goal.has_room-requires
+has_room-requires c =
+    let w = well (goal.at.has_room-requires c).Else-not-is-well-formed in
     record { here = (w.account_in, w.item-in); fit = c.requires.fit }
 
-pub returns-then-not-has-room : goal.returns-then-not-has-room
-returns-then-not-has-room c =
+pub returns-then-not-has_room : goal.returns-then-not-has_room
+returns-then-not-has_room c =
     record {
       value = λ k.
           let z = limits_of c.args.limits k in
-          let e = sym (c.is-well-formed.ensures k) ∙ c.if-not-is-well-formed.false in
-          let r = sym c.has-room.ensures ∙ c.if-not-has-room.true in
+          let e = sym (c.is_well_formed.ensures k) ∙ c.if-not-is_well_formed.false in
+          let r = sym c.has_room.ensures ∙ c.if-not-has_room.true in
           sym (may_is z (world_of c.args.market.now) c.args.order.account c.args.order.item c.args.order.price
           c.args.order.left (side_of c.args.order.side) ∙ rw (e, r));
       same = refl;
       room = refl;
     }
 
-pub would-cover-requires : goal.would-cover-requires
-would-cover-requires c =
-    let w = well (goal.at.would-cover-requires c).Else-not-is-well-formed in
+pub would_cover-requires : goal.would_cover-requires
+would_cover-requires c =
+    let w = well (goal.at.would_cover-requires c).Else-not-is-well-formed in
     record { here = w.account_in; fit = c.requires.fit; room = (omega (arith, w.room, c.requires.room.0), omega (arith, w.room, c.requires.room.1)) }
 
 pub returns : goal.returns
@@ -61,10 +61,10 @@ returns c =
     record {
       value = λ k.
           let z = limits_of c.args.limits k in
-          let e = sym (c.is-well-formed.ensures k) ∙ c.if-not-is-well-formed.false in
-          let r = sym c.has-room.ensures ∙ c.if-not-has-room.false in
+          let e = sym (c.is_well_formed.ensures k) ∙ c.if-not-is_well_formed.false in
+          let r = sym c.has_room.ensures ∙ c.if-not-has_room.false in
           sym (may_is z w c.args.order.account c.args.order.item c.args.order.price c.args.order.left
-          (side_of c.args.order.side) ∙ rw (e, r, new) (sym c.would-cover.ensures.value));
-      same = c.would-cover.ensures.same;
-      room = c.would-cover.ensures.room;
+          (side_of c.args.order.side) ∙ rw (e, r, new) (sym c.would_cover.ensures.value));
+      same = c.would_cover.ensures.same;
+      room = c.would_cover.ensures.room;
     }

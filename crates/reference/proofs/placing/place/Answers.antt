@@ -13,29 +13,29 @@ use Rattle.reference.proofs.Placings.{not_placed, placed, counted_is}
 use Rattle.reference.proofs.placing.place.Goals as goal
 use Rattle.reference.proofs.placing.place.Goals.{Else-not-may-place}
 
-pub push-reserved-requires : goal.push-reserved-requires
-push-reserved-requires c =
+pub push_reserved-requires : goal.push_reserved-requires
+push_reserved-requires c =
     let k = c.requires.sound.0 in
     let w = world_of c.args.market.now in
     let n = not_placed (limits_of c.args.limits k) w c.args.order.account c.args.order.item c.args.order.price
     c.args.order.left (side_of c.args.order.side)
-    (sym (c.may_place.ensures.value k) ∙ c.if-not-may-place.true) in
+    (sym (c.may_place.ensures.value k) ∙ c.if-not-may_place.true) in
     let l = ap (λ p. length p.1) n in
     omega (arith, c.requires.room k)
 
-pub returns-then-not-may-place : goal.returns-then-not-may-place
+pub returns-then-not-may_place : goal.returns-then-not-may_place
 unfolding after
-returns-then-not-may-place c =
+returns-then-not-may_place c =
     let w = world_of c.args.market.now in
-    let p : map report_of (vec_items c.push-reserved.new.self) ≡ map report_of (vec_items c.args.reports.now) ++ no ∷ [] =
-    ap (map report_of) c.push-reserved.ensures.items ∙ map_push report_of (vec_items c.args.reports.now) _ in
+    let p : map report_of (vec_items c.push_reserved.new.self) ≡ map report_of (vec_items c.args.reports.now) ++ no ∷ [] =
+    ap (map report_of) c.push_reserved.ensures.items ∙ map_push report_of (vec_items c.args.reports.now) _ in
     record {
       after = λ k.
           let n = not_placed (limits_of c.args.limits k) w c.args.order.account c.args.order.item c.args.order.price
           c.args.order.left (side_of c.args.order.side)
-          (sym (c.may_place.ensures.value k) ∙ c.if-not-may-place.true) in
+          (sym (c.may_place.ensures.value k) ∙ c.if-not-may_place.true) in
           rw (c.may_place.ensures.same, p, n);
-      room = (c.may_place.ensures.room, c.push-reserved.ensures.capacity);
+      room = (c.may_place.ensures.room, c.push_reserved.ensures.capacity);
     }
 
 -- the order is taken: what is said, and that its number can be counted
@@ -57,14 +57,14 @@ is_taken c =
     let o = c.args.order in
     let new : new_order (world_of c.args.market.now) c.args.order.account c.args.order.item (side_of c.args.order.side)
     c.args.order.price c.args.order.left ≡ order_of c.args.order = cc in
-    let may = sym (c.may_place.ensures.value k) ∙ c.if-not-may-place.false in
+    let may = sym (c.may_place.ensures.value k) ∙ c.if-not-may_place.false in
     let t = turn_begins z w o.account o.item (side_of o.side) o.price o.left c.requires.sound.1 may in
     let said : (k : ℕ → Bool) → says_it (limits_of c.args.limits k) (world_of c.args.market.now)
     (world.place c.args.order.account c.args.order.item (side_of c.args.order.side) c.args.order.price
     c.args.order.left) ≡
     after (done c.args.market.now.next ∷ []) (filled (counted (world_of c.args.market.now)) (order_of c.args.order)) =
     λ k. placed (limits_of c.args.limits k) w o.account o.item o.price o.left (side_of o.side)
-    (sym (c.may_place.ensures.value k) ∙ c.if-not-may-place.false) ∙
+    (sym (c.may_place.ensures.value k) ∙ c.if-not-may_place.false) ∙
     ap (λ x. after (done w.next ∷ []) (filled (counted w) x)) new in
     let l = ap (λ p. length p.1) (said k) ∙ after_one (done w.next) (filled (counted w) (order_of o)) in
     record {
@@ -79,12 +79,12 @@ is_taken c =
       room = omega (arith, c.requires.room k);
     }
 
-pub push-reserved-requires-2 : goal.push-reserved-requires-2
-push-reserved-requires-2 c = omega (arith, (is_taken (goal.at.push-reserved-requires-2 c).Else-not-may-place).room)
+pub push_reserved-requires-2 : goal.push_reserved-requires-2
+push_reserved-requires-2 c = omega (arith, (is_taken (goal.at.push_reserved-requires-2 c).Else-not-may-place).room)
 
-pub overflow-add-market : goal.overflow-add-market
-overflow-add-market c =
-    let t = is_taken (goal.at.overflow-add-market c).Else-not-may-place in
+pub overflow_add-market : goal.overflow_add-market
+overflow_add-market c =
+    let t = is_taken (goal.at.overflow_add-market c).Else-not-may-place in
     omega (arith, t.number, ap (λ v. v.next) c.may_place.ensures.same)
 
 pub fill-requires : goal.fill-requires
@@ -93,7 +93,7 @@ fill-requires c =
     let e = counted_is c.may_place.new.market (world_of c.args.market.now) c.may_place.ensures.same in
     record {
       filling = rw (e, c.may_place.ensures.room) t.filling;
-      room = rw e (omega (arith, t.room, c.push-reserved-2.ensures.len, c.push-reserved-2.ensures.capacity));
+      room = rw e (omega (arith, t.room, c.push_reserved-2.ensures.len, c.push_reserved-2.ensures.capacity));
     }
 
 pub returns : goal.returns
@@ -102,12 +102,12 @@ returns c =
     let w = world_of c.args.market.now in
     let rs = map report_of (vec_items c.args.reports.now) in
     let e = counted_is c.may_place.new.market w c.may_place.ensures.same in
-    let p : map report_of (vec_items c.push-reserved-2.new.self) ≡ map report_of (vec_items c.args.reports.now) ++ done
+    let p : map report_of (vec_items c.push_reserved-2.new.self) ≡ map report_of (vec_items c.args.reports.now) ++ done
     c.args.market.now.next ∷ [] =
-    ap (map report_of) c.push-reserved-2.ensures.items ∙ map_push report_of (vec_items c.args.reports.now) _ ∙
+    ap (map report_of) c.push_reserved-2.ensures.items ∙ map_push report_of (vec_items c.args.reports.now) _ ∙
     ap (λ n. map report_of (vec_items c.args.reports.now) ++ done n ∷ []) (ap (λ v. v.next) c.may_place.ensures.same) in
     record {
       after = λ k. c.fill.ensures.after ∙ rw (p, e, t.says k)
           (sym (after_more rs (done w.next) (filled (counted w) (order_of c.args.order))));
-      room = (c.fill.ensures.room.0 ∙ c.may_place.ensures.room, c.fill.ensures.room.1 ∙ c.push-reserved-2.ensures.capacity);
+      room = (c.fill.ensures.room.0 ∙ c.may_place.ensures.room, c.fill.ensures.room.1 ∙ c.push_reserved-2.ensures.capacity);
     }

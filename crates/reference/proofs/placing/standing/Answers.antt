@@ -5,8 +5,8 @@ use Rattle.venue.specs.World as world
 use Rattle.reference.proofs.Steps.{standing_more}
 use Rattle.reference.proofs.placing.standing.Goals as goal
 
-pub overflow-add-sum : goal.overflow-add-sum
-overflow-add-sum c =
+pub overflow_add-sum : goal.overflow_add-sum
+overflow_add-sum c =
     let e = standing_more c.args.account c.args.item c.args.orders.now c.loop-o.o-index c.loop-o-test.true in
     grind (arith, nat_tests)
 

@@ -9,14 +9,14 @@ use Rattle.reference.proofs.Room.{StillRoomy, still_roomy, roomy_orders, roomy_w
 use Rattle.reference.proofs.trades.trade.Goals as goal
 use Rattle.reference.proofs.trades.trade.Goals.{After-gets}
 
-pub take-from-requires : goal.take-from-requires
-take-from-requires c = let h = simp length-map at c.requires.here.0 in search rules
+pub take_from-requires : goal.take_from-requires
+take_from-requires c = let h = simp length-map at c.requires.here.0 in search rules
 
 pub gets-requires : goal.gets-requires
 unfolding with_orders
 gets-requires c =
     let w = world_of c.args.market.now in
-    let os = map order_of (vec_items c.take-from.new.orders) in
+    let os = map order_of (vec_items c.take_from.new.orders) in
     record {
       here = (search rules, search rules);
       roomy = roomy_wider 1125899906842624 2147483648 1000000000000000000 1000000000000 (with_orders w os) (omega arith) (omega arith)
@@ -29,7 +29,7 @@ half : (c : goal.After-gets) → StillRoomy (world_of c.args.market.now) (world_
 unfolding with_orders
 half c =
     let w = world_of c.args.market.now in
-    let os = map order_of (vec_items c.take-from.new.orders) in
+    let os = map order_of (vec_items c.take_from.new.orders) in
     let f : SFits w64 c.signed.result = search rules in
     let s = to_z-of_z w64 c.signed.result f in
     let e : world_of c.gets.new.market ≡ gets (with_orders w os) c.args.o.now.account c.args.o.now.item c.signed.result
@@ -59,8 +59,8 @@ returns c =
     let g : SFits w64 c.signed-2.result = search rules in
     let s = to_z-of_z w64 c.signed.result f in
     let t = to_z-of_z w64 c.signed-2.result g in
-    let os = map order_of (vec_items c.take-from.new.orders) in
-    let e : with_orders w os ≡ with_orders w (taken c.args.j c.args.x w.orders) = ap (with_orders w) c.take-from.ensures.after in
+    let os = map order_of (vec_items c.take_from.new.orders) in
+    let e : with_orders w os ≡ with_orders w (taken c.args.j c.args.x w.orders) = ap (with_orders w) c.take_from.ensures.after in
     record {
       after =
           traded_is w (with_orders w os) (world_of c.gets.new.market) (world_of c.gets-2.new.market) (order_of c.args.o.now)

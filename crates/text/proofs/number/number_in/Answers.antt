@@ -3,8 +3,8 @@ use Rattle.std.proofs.lemmas.Bool.Decides.{nat_tests}
 use Rattle.text.proofs.Numerals.{digits_next, digits_end, no_digits, first_digits}
 use Rattle.text.proofs.number.number_in.Goals as goal
 
-pub returns-then-is-empty : goal.returns-then-is-empty
-returns-then-is-empty c = sym (no_digits c.args.word.now (grind (arith, nat_tests)))
+pub returns-then-is_empty : goal.returns-then-is_empty
+returns-then-is_empty c = sym (no_digits c.args.word.now (grind (arith, nat_tests)))
 
 pub loop-i-init : goal.loop-i-init
 loop-i-init c = (first_digits c.args.word.now (grind (arith, nat_tests)), omega arith)

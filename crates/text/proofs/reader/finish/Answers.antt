@@ -4,16 +4,16 @@ use Rattle.text.proofs.Ends.{no_accounts, no_orders, no_money, no_item, to_check
 use Rattle.text.proofs.Plans.{held_length}
 use Rattle.text.proofs.reader.finish.Goals as goal
 
-pub returns-in-default : goal.returns-in-default
-returns-in-default c = no_accounts c.args.line (plan_of c.args.draft.now) c.in-default.is
+pub returns-in_default : goal.returns-in_default
+returns-in_default c = no_accounts c.args.line (plan_of c.args.draft.now) c.in_default.is
 
-pub returns-in-default-orders : goal.returns-in-default-orders
-returns-in-default-orders c = no_orders c.args.line (plan_of c.args.draft.now) c.in-Some.accounts c.in-Some.is c.in-default-orders.is
+pub returns-in_default-orders : goal.returns-in_default-orders
+returns-in_default-orders c = no_orders c.args.line (plan_of c.args.draft.now) c.in-Some.accounts c.in-Some.is c.in_default-orders.is
 
-pub returns-in-default-money : goal.returns-in-default-money
-returns-in-default-money c =
+pub returns-in_default-money : goal.returns-in_default-money
+returns-in_default-money c =
     no_money c.args.line (plan_of c.args.draft.now) c.in-Some.accounts c.in-Some-orders.orders c.in-Some.is c.in-Some-orders.is
-    c.in-default-money.is
+    c.in_default-money.is
 
 pub returns-then-draft-eq0 : goal.returns-then-draft-eq0
 returns-then-draft-eq0 c =

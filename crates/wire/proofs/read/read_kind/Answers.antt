@@ -17,37 +17,37 @@ unfolding reads
 placed bs i n (Ok p) k h = (rw k (h.0 n), grind arith, grind arith)
 placed bs i n (Err e) k h = (rw k h.0, h.1)
 
-pub returns-in-err-account : goal.returns-in-err-account
+pub returns-in_err-account-in-1 : goal.returns-in_err-account-in-1
 unfolding reads
-returns-in-err-account c = grind (arith, nat_tests)
+returns-in_err-account-in-1 c = grind (arith, nat_tests)
 
-pub returns-in-err-account-2 : goal.returns-in-err-account-2
+pub returns-in_err-account-in-2 : goal.returns-in_err-account-in-2
 unfolding reads
-returns-in-err-account-2 c = grind (arith, nat_tests)
+returns-in_err-account-in-2 c = grind (arith, nat_tests)
 
-pub returns-in-err-account-3 : goal.returns-in-err-account-3
+pub returns-in_err-account-in-4 : goal.returns-in_err-account-in-4
 unfolding reads
-returns-in-err-account-3 c = grind (arith, nat_tests)
+returns-in_err-account-in-4 c = grind (arith, nat_tests)
 
 pub returns-then-items-bytes : goal.returns-then-items-bytes
 unfolding reads
 returns-then-items-bytes c = grind (arith, nat_tests)
 
-pub returns-in-ok-account : goal.returns-in-ok-account
+pub returns-in_ok-account-in-1 : goal.returns-in_ok-account-in-1
 unfolding reads
-returns-in-ok-account c = grind (arith, nat_tests)
+returns-in_ok-account-in-1 c = grind (arith, nat_tests)
 
-pub returns-in-ok-account-2 : goal.returns-in-ok-account-2
+pub returns-in_ok-account-in-2 : goal.returns-in_ok-account-in-2
 unfolding reads
-returns-in-ok-account-2 c = grind (arith, nat_tests)
+returns-in_ok-account-in-2 c = grind (arith, nat_tests)
 
 pub returns-in-3 : goal.returns-in-3
 unfolding reads
-returns-in-3 c = placed c.args.bytes.now c.args.at c.args.items c.read-place.result c.in-3.is c.read-place.ensures
+returns-in-3 c = placed c.args.bytes.now c.args.at c.args.items c.read_place.result c.in-3.is c.read_place.ensures
 
-pub returns-in-ok-account-3 : goal.returns-in-ok-account-3
+pub returns-in_ok-account-in-4 : goal.returns-in_ok-account-in-4
 unfolding reads
-returns-in-ok-account-3 c = grind (arith, nat_tests)
+returns-in_ok-account-in-4 c = grind (arith, nat_tests)
 
 pub returns-else-items-bytes : goal.returns-else-items-bytes
 unfolding reads
@@ -57,6 +57,6 @@ pub returns-in-6 : goal.returns-in-6
 unfolding reads
 returns-in-6 c = grind (arith, nat_tests)
 
-pub returns-in-default : goal.returns-in-default
+pub returns-in_default : goal.returns-in_default
 unfolding reads
-returns-in-default c = grind (arith, nat_tests)
+returns-in_default c = grind (arith, nat_tests)

@@ -23,6 +23,6 @@ returns-then-at-bytes c =
 pub returns : goal.returns
 returns c =
     record {
-      found = c.read-kind.ensures;
-      written = as_written c.args.bytes.now c.args.at c.args.items c.read-kind.result (λ k. (c.type-inv.bytes k).fits) c.read-kind.ensures;
+      found = c.read_kind.ensures;
+      written = as_written c.args.bytes.now c.args.at c.args.items c.read_kind.result (λ k. (c.type_inv.bytes k).fits) c.read_kind.ensures;
     }

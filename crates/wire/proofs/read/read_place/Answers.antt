@@ -8,9 +8,9 @@ pub returns-then-not-reaches : goal.returns-then-not-reaches
 unfolding reads_place
 returns-then-not-reaches c = grind (arith, nat_tests)
 
-pub returns-in-default : goal.returns-in-default
+pub returns-in_default : goal.returns-in_default
 unfolding reads_place
-returns-in-default c = grind (arith, nat_tests)
+returns-in_default c = grind (arith, nat_tests)
 
 pub returns : goal.returns
 unfolding reads_place

@@ -22,6 +22,6 @@ returns-then-at-bytes c =
 pub returns : goal.returns
 returns c =
     record {
-      found = c.read-kind.ensures;
-      written = as_reported c.args.bytes.now c.args.at c.read-kind.result (λ k. (c.type-inv.bytes k).fits) c.read-kind.ensures;
+      found = c.read_kind.ensures;
+      written = as_reported c.args.bytes.now c.args.at c.read_kind.result (λ k. (c.type_inv.bytes k).fits) c.read_kind.ensures;
     }

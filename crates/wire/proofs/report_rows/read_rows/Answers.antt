@@ -40,20 +40,20 @@ returns-then-not-reaches c = (
 pub loop-left-init : goal.loop-left-init
 loop-left-init c =
     let l : c.args.at + 4 ≤ length c.args.bytes.now = leb-true _ _ (sym c.if-not-reaches.ensures) in (
-      rw c.u32-at-left.ensures (row_start c.args.bytes.now c.args.at (map report_of (vec_items c.args.into.now)) l),
+      rw c.u32_at-left.ensures (row_start c.args.bytes.now c.args.at (map report_of (vec_items c.args.into.now)) l),
       l,
       take_all (length (vec_items c.args.into.now)) (vec_items c.args.into.now) (omega arith),
     )
 
-pub returns-in-default : goal.returns-in-default
-returns-in-default c = (
+pub returns-in_default : goal.returns-in_default
+returns-in_default c = (
   c.loop-left.invariant.2,
-  stopped c.args.bytes.now c.args.at c.loop-left.size c.loop-left.left _ _ c.loop-left-test.true c.in-default.ensures.found c.loop-left.invariant.0,
+  stopped c.args.bytes.now c.args.at c.loop-left.size c.loop-left.left _ _ c.loop-left-test.true c.in_default.ensures.found c.loop-left.invariant.0,
 )
 
 pub loop-left-preserved : goal.loop-left-preserved
 loop-left-preserved c =
-    let e : vec_items c.extend-from-slice.new.self ≡ vec_items c.loop-left.into ++ c.in-Some.report ∷ [] = search rules in (
+    let e : vec_items c.extend_from_slice.new.self ≡ vec_items c.loop-left.into ++ c.in-Some.report ∷ [] = search rules in (
       turn c.args.bytes.now c.args.at c.loop-left.size c.loop-left.left (vec_items c.loop-left.into) _ c.in-Some.report c.in-Some.n _
           c.loop-left-test.true e c.in-Some.ensures.found.0 c.loop-left.invariant.0,
       omega (arith, c.in-Some.ensures.found.2),

@@ -7,4 +7,4 @@ pub returns : goal.returns
 unfolding two_of four_of eight_of signed_of
 returns c =
     let f = c.ranges.held in
-    simp (c.two-bytes-a.ensures, c.two-bytes-o.ensures, c.two-bytes-k.ensures, c.eight-bytes-h.ensures, c.cast-unsigned.ensures, to_z-of_z)
+    simp (c.two_bytes-a.ensures, c.two_bytes-o.ensures, c.two_bytes-k.ensures, c.eight_bytes-h.ensures, c.cast_unsigned.ensures, to_z-of_z)

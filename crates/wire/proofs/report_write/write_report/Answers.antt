@@ -23,7 +23,7 @@ trade_bytes n m k p x u v e f =
 pub returns-in-Taken : goal.returns-in-Taken
 unfolding report_bytes
 returns-in-Taken c =
-    put c.args.report.now (Taken c.in-Taken.number) _ _ _ c.append.result c.in-Taken.is c.taken-bytes.ensures
+    put c.args.report.now (Taken c.in-Taken.number) _ _ _ c.append.result c.in-Taken.is c.taken_bytes.ensures
     c.append.ensures
 
 pub returns-in-Refused : goal.returns-in-Refused
@@ -35,7 +35,7 @@ pub returns-in-Torn : goal.returns-in-Torn
 unfolding report_bytes
 returns-in-Torn c =
     let f : SFits w64 c.in-Torn.held = search rules in
-    let e = simp to_z-of_z at c.torn-bytes.ensures in
+    let e = simp to_z-of_z at c.torn_bytes.ensures in
     put c.args.report.now (Torn c.in-Torn.account c.in-Torn.other c.in-Torn.item c.in-Torn.held) _ _ _
     c.append-in-Torn.result c.in-Torn.is e c.append-in-Torn.ensures
 
@@ -43,7 +43,7 @@ pub returns-in-Trade : goal.returns-in-Trade
 returns-in-Trade c =
     put c.args.report.now
     (Trade c.in-Trade.newer c.in-Trade.older c.in-Trade.item c.in-Trade.price c.in-Trade.quantity) _ _ _
-    c.append-both.result c.in-Trade.is
+    c.append_both.result c.in-Trade.is
     (trade_bytes c.in-Trade.newer c.in-Trade.older c.in-Trade.item c.in-Trade.price c.in-Trade.quantity
-    c.orders-bytes.result c.traded-bytes.result c.orders-bytes.ensures c.traded-bytes.ensures)
-    c.append-both.ensures
+    c.orders_bytes.result c.traded_bytes.result c.orders_bytes.ensures c.traded_bytes.ensures)
+    c.append_both.ensures

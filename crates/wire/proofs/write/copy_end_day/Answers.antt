@@ -27,4 +27,4 @@ copied src i n before after r b l w =
 
 pub returns : goal.returns
 returns c =
-    copied c.args.source.now c.args.prices c.args.items _ _ c.append-both.result (λ k. (c.type-inv.source k).fits) (omega arith) c.append-both.ensures
+    copied c.args.source.now c.args.prices c.args.items _ _ c.append_both.result (λ k. (c.type_inv.source k).fits) (omega arith) c.append_both.ensures

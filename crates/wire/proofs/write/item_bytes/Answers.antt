@@ -3,4 +3,4 @@ use Rattle.wire.proofs.write.item_bytes.Goals as goal
 
 pub returns : goal.returns
 unfolding two_of four_of
-returns c = simp (c.four-bytes-p.ensures, c.four-bytes-b.ensures)
+returns c = simp (c.four_bytes-p.ensures, c.four_bytes-b.ensures)

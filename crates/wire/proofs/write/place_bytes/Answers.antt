@@ -8,4 +8,4 @@ pub returns : goal.returns
 unfolding two_of four_of
 returns c =
     let s : c.match-side.s ≡ side_byte (side_of c.args.side) = search rules in
-    simp (c.two-bytes-a.ensures, c.two-bytes-k.ensures, c.four-bytes-p.ensures, c.four-bytes-q.ensures, s)
+    simp (c.two_bytes-a.ensures, c.two_bytes-k.ensures, c.four_bytes-p.ensures, c.four_bytes-q.ensures, s)

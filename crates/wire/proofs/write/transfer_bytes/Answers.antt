@@ -3,4 +3,4 @@ use Rattle.wire.proofs.write.transfer_bytes.Goals as goal
 
 pub returns : goal.returns
 unfolding two_of four_of eight_of
-returns c = simp (c.two-bytes-a.ensures, c.eight-bytes-x.ensures)
+returns c = simp (c.two_bytes-a.ensures, c.eight_bytes-x.ensures)

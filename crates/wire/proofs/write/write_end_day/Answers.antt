@@ -23,7 +23,7 @@ pub loop-item-preserved : goal.loop-item-preserved
 unfolding no_item
 loop-item-preserved c =
     rows_more item_row c.args.items.now c.loop-item.item-index no_item (vec_items c.append.new.out) (vec_items c.loop-item.out) _
-    c.item-bytes.result c.loop-item-test.true c.loop-item.invariant c.item-bytes.ensures c.in-default.ensures
+    c.item_bytes.result c.loop-item-test.true c.loop-item.invariant c.item_bytes.ensures c.in_default.ensures
 
 pub returns-in-Err : goal.returns-in-Err
 returns-in-Err c =
@@ -31,12 +31,12 @@ returns-in-Err c =
     let l : length old ≡ c.len-start.result = search rules in
     let rows = flat_map item_row (take c.loop-item.item-index c.args.items.now) in (
       cut_back old _ ((5 ∷ []) ++ rows) c.len-start.result _
-          (c.in-Err.ensures.0 ∙ behind_both old _ _ (5 ∷ []) rows c.in-ok-append.ensures c.loop-item.invariant) c.truncate.ensures.items l,
+          (c.in-Err.ensures.0 ∙ behind_both old _ _ (5 ∷ []) rows c.in_ok-append.ensures c.loop-item.invariant) c.truncate.ensures.items l,
       c.in-Err.ensures.1,
     )
 
 pub returns : goal.returns
 returns c =
     rows_all item_row c.args.items.now c.loop-item.item-index (vec_items c.args.out.now) _ _ (5 ∷ []) (omega arith)
-    c.in-ok-append.ensures c.loop-item.invariant
+    c.in_ok-append.ensures c.loop-item.invariant
     ∙ ap (λ (xs : List ℕ). vec_items c.args.out.now ++ xs) (sym (all_items c.args.items.now))

@@ -18,27 +18,27 @@ pub returns-in-PayIn : goal.returns-in-PayIn
 unfolding writes
 returns-in-PayIn c =
     put c.args.message.now (PayIn c.in-PayIn.account c.in-PayIn.amount) c.args.source.now c.args.items _ _ _
-    c.append.result c.in-PayIn.is refl c.transfer-bytes.ensures c.append.ensures
+    c.append.result c.in-PayIn.is refl c.transfer_bytes.ensures c.append.ensures
 
 pub returns-in-PayOut : goal.returns-in-PayOut
 unfolding writes
 returns-in-PayOut c =
     put c.args.message.now (PayOut c.in-PayOut.account c.in-PayOut.amount) c.args.source.now c.args.items _ _ _
-    c.append-in-PayOut.result c.in-PayOut.is refl c.transfer-bytes-in-PayOut.ensures c.append-in-PayOut.ensures
+    c.append-in-PayOut.result c.in-PayOut.is refl c.transfer_bytes-in-PayOut.ensures c.append-in-PayOut.ensures
 
 pub returns-in-Place : goal.returns-in-Place
 unfolding writes
 returns-in-Place c =
     put c.args.message.now
     (Place c.in-Place.account c.in-Place.item c.in-Place.side c.in-Place.price c.in-Place.quantity)
-    c.args.source.now c.args.items _ _ _ c.append-in-Place.result c.in-Place.is refl c.place-bytes.ensures
+    c.args.source.now c.args.items _ _ _ c.append-in-Place.result c.in-Place.is refl c.place_bytes.ensures
     c.append-in-Place.ensures
 
 pub returns-in-Cancel : goal.returns-in-Cancel
 unfolding writes
 returns-in-Cancel c =
     put c.args.message.now (Cancel c.in-Cancel.account c.in-Cancel.number) c.args.source.now c.args.items _ _ _
-    c.append-in-Cancel.result c.in-Cancel.is refl c.transfer-bytes-in-Cancel.ensures c.append-in-Cancel.ensures
+    c.append-in-Cancel.result c.in-Cancel.is refl c.transfer_bytes-in-Cancel.ensures c.append-in-Cancel.ensures
 
 pub returns-in-BeginDay : goal.returns-in-BeginDay
 unfolding writes

@@ -9,4 +9,4 @@ loop-k-init c = (refl, refl)
 
 pub loop-k-preserved : goal.loop-k-preserved
 loop-k-preserved c =
-    (items_more c.args.bytes.now 24 c.loop-k.k _ _ c.loop-k.items (omega arith) c.u32-at.ensures c.u32-at-in-loop-k.ensures c.loop-k.invariant.0, simp length-set c.loop-k.invariant.1)
+    (items_more c.args.bytes.now 24 c.loop-k.k _ _ c.loop-k.items (omega arith) c.u32_at.ensures c.u32_at-in-loop-k.ensures c.loop-k.invariant.0, simp length-set c.loop-k.invariant.1)

@@ -13,10 +13,10 @@ pub returns-in-Some : goal.returns-in-Some
 returns-in-Some c =
     sym (out_of_range c.args.bytes.now c.in-Some.at c.if-length-lt512.false (sym c.if-not-marked.ensures) (sym c.in-Some.ensures))
 
-pub returns-then-bad-length : goal.returns-then-bad-length
-returns-then-bad-length c =
-    sym (ill_sized c.args.bytes.now c.if-length-lt512.false (sym c.if-not-marked.ensures) (sym c.in-default.ensures) (sym c.if-bad-length.ensures))
+pub returns-then-bad_length : goal.returns-then-bad_length
+returns-then-bad_length c =
+    sym (ill_sized c.args.bytes.now c.if-length-lt512.false (sym c.if-not-marked.ensures) (sym c.in_default.ensures) (sym c.if-bad_length.ensures))
 
 pub returns : goal.returns
 returns c =
-    sym (not_refused c.args.bytes.now c.if-length-lt512.false (sym c.if-not-marked.ensures) (sym c.in-default.ensures) (sym c.if-bad-length.ensures))
+    sym (not_refused c.args.bytes.now c.if-length-lt512.false (sym c.if-not-marked.ensures) (sym c.in_default.ensures) (sym c.if-bad_length.ensures))

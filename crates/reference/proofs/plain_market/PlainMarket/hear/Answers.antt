@@ -58,8 +58,8 @@ after_it : (c : goal.After-obey) →
     (message_of c.args.bytes.now (length (world_of c.args.self.now.market).items) c.args.message)
 after_it c = c.obey.ensures.after (kinds_of c.args.self.now.kinds) ∙ sym (says_is (goal.at.After-obey c).Then-has)
 
-pub invariant-of-self : goal.invariant-of-self
-invariant-of-self c =
+pub invariant_of-self : goal.invariant_of-self
+invariant_of-self c =
     let m = c.args.self.now in
     let k = kinds_of m.kinds in
     let z = limits_of m.limits k in
@@ -90,6 +90,6 @@ returns-else-has c =
     let a = (goal.at.returns-else-has c).After-has in
     let m = c.args.self.now in
     let n = says_not (limits_of m.limits (kinds_of m.kinds)) (world_of m.market) (said a) (sym (built a) ∙ c.if-has.false) in
-    let p : map report_of (vec_items c.push-reserved.new.self) ≡ world.no ∷ [] =
-    ap (map report_of) (c.push-reserved.ensures.items ∙ ap (λ rs. rs ++ Refused ∷ []) c.clear.ensures.items) in
+    let p : map report_of (vec_items c.push_reserved.new.self) ≡ world.no ∷ [] =
+    ap (map report_of) (c.push_reserved.ensures.items ∙ ap (λ rs. rs ++ Refused ∷ []) c.clear.ensures.items) in
     record { market = sym (ap (λ y. y.0) n); reports = p ∙ sym (ap (λ y. y.1) n); limits = refl }

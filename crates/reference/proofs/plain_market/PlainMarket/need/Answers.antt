@@ -14,8 +14,8 @@ returns-then-from-len c =
     let h : length (vec_items c.args.self.now.market.accounts) ≤ c.args.account = search rules in
     rw (length-map, le-ltb c.args.account (length (vec_items c.args.self.now.market.accounts)) h)
 
-pub need-of-requires : goal.need-of-requires
-need-of-requires c =
+pub need_of-requires : goal.need_of-requires
+need_of-requires c =
     let m = c.args.self.now in
     let k = kinds_of m.kinds in
     record {
@@ -27,6 +27,6 @@ need-of-requires c =
 pub returns : goal.returns
 returns c =
     let h : c.args.account < length (vec_items c.args.self.now.market.accounts) = search rules in
-    let z : to_z w128 (of_z w128 c.need-of.result) ≡ c.need-of.result = omega (arith, ints) in
+    let z : to_z w128 (of_z w128 c.need_of.result) ≡ c.need_of.result = omega (arith, ints) in
     rw (length-map, lt-ltb c.args.account (length (vec_items c.args.self.now.market.accounts)) h)
-    (ap Some (z ∙ c.need-of.ensures.value))
+    (ap Some (z ∙ c.need_of.ensures.value))

@@ -9,31 +9,31 @@ use Rattle.reference.specs.Means.{limits_of, world_of}
 use Rattle.reference.proofs.Firsts.{first_many, items_sound}
 use Rattle.reference.proofs.plain_market.PlainMarket.new.Goals as goal
 
-pub invariant-of-result : goal.invariant-of-result
-invariant-of-result c =
+pub invariant_of-result : goal.invariant_of-result
+invariant_of-result c =
     let n = header_of c.args.header.now in
-    let m = c.in-ok-market.ensures in
-    let e : world_of c.in-ok-market.market ≡ disc.first_of (header_of c.args.header.now) = m.0 in
+    let m = c.in_ok-market.ensures in
+    let e : world_of c.in_ok-market.market ≡ disc.first_of (header_of c.args.header.now) = m.0 in
     let p = and_parts (disc.counts_fit (length n.items) n.accounts n.orders n.money) (disc.items_fit n.items)
     c.args.header.now.fits in
     let many = first_many n.items n.accounts in
-    let a : length (world_of c.in-ok-market.market).accounts ≡ (header_of c.args.header.now).accounts = ap (λ v. length v.accounts)
+    let a : length (world_of c.in_ok-market.market).accounts ≡ (header_of c.args.header.now).accounts = ap (λ v. length v.accounts)
     e ∙ many.0 in
-    let i : length (world_of c.in-ok-market.market).items ≡ length (header_of c.args.header.now).items = ap (λ v. length v.items)
+    let i : length (world_of c.in_ok-market.market).items ≡ length (header_of c.args.header.now).items = ap (λ v. length v.items)
     e ∙ many.1 in
     let z = limits_of (record { orders = c.orders.result; money = c.money.result }) (kinds_of c.args.kinds) in
-    let r = c.in-ok-reports.ensures.capacity in
+    let r = c.in_ok-reports.ensures.capacity in
     let q : suc (max c.orders.result ((header_of c.args.header.now).accounts * length (header_of c.args.header.now).items)) ≤ vec_capacity
-    c.in-ok-reports.reports =
-    rw (c.orders.ensures.value, ← c.most-reports.ensures) r in (
+    c.in_ok-reports.reports =
+    rw (c.orders.ensures.value, ← c.most_reports.ensures) r in (
       subst (Sound z) (sym e) (sound_first z n.items n.accounts (items_sound n.items p.1)),
       (rw (a, i, c.orders.ensures.value, c.money.ensures.value) p.0, (omega (arith, m.1, c.orders.ensures.value), (rw (a, i) q, tt))),
     )
 
 pub returns : goal.returns
 returns c = (
-  c.in-ok-market.ensures.0,
+  c.in_ok-market.ensures.0,
   rw (c.orders.ensures.value, c.money.ensures.value),
   ap (map report_of)
-      c.in-ok-reports.ensures.items,
+      c.in_ok-reports.ensures.items,
 )

@@ -9,9 +9,9 @@ pub returns : goal.returns
 unfolding first
 returns c =
     let n = header_of c.args.header.now in
-    let i : map item_of (vec_items c.in-ok-items.items) ≡ (header_of c.args.header.now).items =
-    ap (map item_of) c.in-ok-items.ensures.items ∙ c.items.ensures in
-    let a : map account_of (vec_items c.in-ok-accounts.accounts) ≡ replicate n.accounts
+    let i : map item_of (vec_items c.in_ok-items.items) ≡ (header_of c.args.header.now).items =
+    ap (map item_of) c.in_ok-items.ensures.items ∙ c.items.ensures in
+    let a : map account_of (vec_items c.in_ok-accounts.accounts) ≡ replicate n.accounts
     (record { cash = pos 0; holds = replicate (length n.items) (pos 0) }) =
-    c.in-ok-accounts.ensures ∙ rw (c.accounts.ensures.value, c.count.ensures.value) in
-    (rw (i, a, c.in-ok-orders.ensures.items), omega (arith, c.in-ok-orders.ensures.capacity, c.orders.ensures.value))
+    c.in_ok-accounts.ensures ∙ rw (c.accounts.ensures.value, c.count.ensures.value) in
+    (rw (i, a, c.in_ok-orders.ensures.items), omega (arith, c.in_ok-orders.ensures.capacity, c.orders.ensures.value))
