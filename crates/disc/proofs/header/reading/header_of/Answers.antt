@@ -21,7 +21,7 @@ pub invariant_of-result : goal.invariant_of-result
 invariant_of-result c =
     let h = held c.args.bytes.now c.requires in
     let fits = numbers_in_range c.args.bytes.now _ _ _ _ _ h c.u32_at-count.ensures c.u32_at-accounts.ensures c.u32_at-orders.ensures c.u64_at.ensures c.items_of.ensures.0 in
-    (omega arith, (c.items_of.ensures.1, (fits, tt)))
+    record { few = omega arith; room = c.items_of.ensures.1; fits = fits }
 
 pub returns : goal.returns
 returns c =
