@@ -7,7 +7,7 @@ use Rattle.wire.specs.Means.{column, item_of}
 use Rattle.reference.specs.Means.{world_of, account_of, limits_of}
 use Rattle.reference.proofs.Evenings.{May-end, not_ended, ended}
 use Rattle.reference.proofs.evening.end_day.Goals as goal
-use Rattle.reference.proofs.evening.end_day.Goals.{After-all-fit, then-bytes-long-via-then-bytes-long}
+use Rattle.reference.proofs.evening.end_day.Goals.{After-all_fit, then-bytes-long-via-then-bytes-long}
 use Rattle.reference.proofs.evening.end_day.Goals.{then-bytes-long-via-else-bytes-long+then-prices-bytes}
 use Rattle.reference.proofs.evening.end_day.Goals.{then-bytes-long-via-else-bytes-long+else-prices-bytes+then-not-market}
 
@@ -32,7 +32,7 @@ returns-then-bytes-long c =
     }
 
 -- the test of the prices, in the plain market's words
-tested : (c : goal.After-all-fit) → c.all_fit.result ≡
+tested : (c : goal.After-all_fit) → c.all_fit.result ≡
     world.prices_fit (world_of c.args.market.now).items
     (column c.args.bytes.now c.args.prices (length (world_of c.args.market.now).items))
     (column c.args.bytes.now (c.args.prices + 4) (length (world_of c.args.market.now).items))
@@ -49,7 +49,7 @@ returns-then-not-all_fit c =
     record {
       after = λ k. not_ended (limits_of c.args.limits k) (world_of m) c.args.bytes.now (length (world_of m).items) c.args.prices
           c.requires.fit.some
-          (λ h. false≢true (sym c.if-not-all_fit.true ∙ tested (goal.at.returns-then-not-all_fit c).After-all-fit ∙ h.2));
+          (λ h. false≢true (sym c.if-not-all_fit.true ∙ tested (goal.at.returns-then-not-all_fit c).After-all_fit ∙ h.2));
       room = search rules;
     }
 
@@ -61,7 +61,7 @@ settle-requires c =
     let few = simp length-map at c.requires.fit.items in
     let fit : prices_fit (world_of m).items (column c.args.bytes.now c.args.prices (length (world_of m).items))
     (column c.args.bytes.now (c.args.prices + 4) (length (world_of m).items)) ≡ true =
-    sym (tested (goal.at.settle-requires c).After-all-fit) ∙ c.if-not-all_fit.false in
+    sym (tested (goal.at.settle-requires c).After-all_fit) ∙ c.if-not-all_fit.false in
     let in_row : (a : ℕ) → a < vec_len m.accounts → a < length (world_of m).accounts = λ a h. simp length-map (search rules) in
     record {
       inside = search rules;
@@ -75,7 +75,7 @@ returns c =
     let m = c.args.market.now in
     let bs = c.args.bytes.now in
     let n : vec_len m.items ≡ length (map item_of (vec_items m.items)) = simp length-map m.items.ok.0 in
-    let fit = sym (tested (goal.at.returns c).After-all-fit) ∙ c.if-not-all_fit.false in
+    let fit = sym (tested (goal.at.returns c).After-all_fit) ∙ c.if-not-all_fit.false in
     let new : map item_of (vec_items c.renew.new.items) ≡
     world.new_items (column bs c.args.prices (length (world_of m).items)) (column bs (c.args.prices + 4) (length (world_of m).items)) =
     c.renew.ensures ∙ ap (λ k. world.new_items (column bs c.args.prices k) (column bs (c.args.prices + 4) k)) n in

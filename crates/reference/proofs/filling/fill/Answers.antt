@@ -13,7 +13,7 @@ use Rattle.reference.proofs.Fills.{lesser_high}
 use Rattle.reference.proofs.Orders.{best_more, best_none, best_front}
 use Rattle.reference.proofs.Places.{read_map}
 use Rattle.reference.proofs.filling.fill.Goals as goal
-use Rattle.reference.proofs.filling.fill.Goals.{After-comes-before, After-index, After-trade, then-o-r, else-o-r}
+use Rattle.reference.proofs.filling.fill.Goals.{After-comes_before, After-index, After-trade, then-o-r, else-o-r}
 
 pub filling-init : goal.filling-init
 filling-init c = (refl, c.requires.filling, c.requires.room, refl, refl)
@@ -33,7 +33,7 @@ pub comes_before-requires : goal.comes_before-requires
 comes_before-requires c = let l = simp length-map at c.loop-i.invariant.2 in rw c.deref.ensures.value (omega arith)
 
 -- one place further to the front
-stepped : (c : goal.After-comes-before) →
+stepped : (c : goal.After-comes_before) →
     best (order_of c.filling.o) (drop (c.loop-i.i - 1) (world_of c.loop-i.market).orders) ≡
     world.pick c.comes_before.result 0 (c.loop-i.at - (c.loop-i.i - 1))
 stepped c =
@@ -47,13 +47,13 @@ stepped c =
 
 pub loop-i-preserved-then-comes_before : goal.loop-i-preserved-then-comes_before
 loop-i-preserved-then-comes_before c =
-    let b = rw c.if-comes_before.true at (stepped (goal.at.loop-i-preserved-then-comes_before c).After-comes-before) in
+    let b = rw c.if-comes_before.true at (stepped (goal.at.loop-i-preserved-then-comes_before c).After-comes_before) in
     let l = c.loop-i.invariant.2 in
     (omega arith, omega arith, omega arith, c.loop-i.invariant.3)
 
 pub loop-i-preserved : goal.loop-i-preserved
 loop-i-preserved c =
-    let b = rw c.if-comes_before.false at (stepped (goal.at.loop-i-preserved c).After-comes-before) in
+    let b = rw c.if-comes_before.false at (stepped (goal.at.loop-i-preserved c).After-comes_before) in
     let a = c.loop-i.invariant.0 in
     let k = c.loop-i.invariant.1 in
     let l = c.loop-i.invariant.2 in

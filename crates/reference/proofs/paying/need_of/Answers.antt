@@ -1,7 +1,7 @@
 use Rattle.std.proofs.Common.{◌≡◌, ◌<◌, map, vec_items, vec_len, ap, ◌∙◌, arith, rules}
 use Rattle.std.proofs.lemmas.List.{length-map}
 use Rattle.std.proofs.lemmas.Int.{ints}
-use Rattle.venue.specs.World.{account, goal}
+use Rattle.venue.specs.World.{account, need}
 use Rattle.reference.specs.Means.{world_of, account_of}
 use Rattle.reference.proofs.Places.{account_read}
 use Rattle.reference.proofs.paying.need_of.Goals as goal
@@ -24,7 +24,7 @@ need-requires c =
     record { orders = search rules; items = search rules; shaped = search rules }
 
 pub returns : goal.returns
-unfolding goal
+unfolding need
 returns c =
     let r = read (goal.at.returns c).After-index in
     record { value = rw r (search rules); bound = (omega (arith, ints), omega (arith, ints)) }

@@ -7,7 +7,7 @@ use Rattle.reference.proofs.Payments.{paid_in, not_paid_in}
 use Rattle.reference.proofs.Places.{account_read, paid_world}
 use Rattle.reference.proofs.Products.{account_same}
 use Rattle.reference.proofs.paying.pay_in.Goals as goal
-use Rattle.reference.proofs.paying.pay_in.Goals.{After-index-mut}
+use Rattle.reference.proofs.paying.pay_in.Goals.{After-index_mut}
 
 pub returns-then-a-len : goal.returns-then-a-len
 returns-then-a-len c =
@@ -33,7 +33,7 @@ returns-then-money-limits c =
       room = search rules;
     }
 
-read : (c : goal.After-index-mut) → account (world_of c.args.market.now) c.args.account ≡ account_of c.index_mut.result.now
+read : (c : goal.After-index_mut) → account (world_of c.args.market.now) c.args.account ≡ account_of c.index_mut.result.now
 read c =
     let here : c.args.account < vec_len c.args.market.now.accounts = search rules in
     account_read c.args.market.now c.args.account c.index_mut.result.now here
@@ -42,14 +42,14 @@ read c =
 pub overflow_add-index_mut : goal.overflow_add-index_mut
 overflow_add-index_mut c =
     let here : c.args.account < vec_len c.args.market.now.accounts = search rules in
-    let m = rw (read (goal.at.overflow_add-index_mut c).After-index-mut) at (c.requires.fit.roomy.cash c.args.account (simp length-map (search rules))) in
+    let m = rw (read (goal.at.overflow_add-index_mut c).After-index_mut) at (c.requires.fit.roomy.cash c.args.account (simp length-map (search rules))) in
     omega (arith, ints, c.in-Some.ensures.1, c.requires.limit)
 
 pub returns : goal.returns
 unfolding with_money with_account
 returns c =
     let here : c.args.account < vec_len c.args.market.now.accounts = search rules in
-    let r = read (goal.at.returns c).After-index-mut in
+    let r = read (goal.at.returns c).After-index_mut in
     let m = rw r at (c.requires.fit.roomy.cash c.args.account (simp length-map (search rules))) in
     let x : c.in-Some.money ≡ c.args.market.now.money + c.args.amount = c.in-Some.ensures.1 in
     let cash : to_z w64 (of_z w64 (to_z w64 (of_z w64 c.index_mut.result.now.cash) +ℤ to_z w64 c.args.amount)) ≡ c.index_mut.result.now.cash

@@ -8,7 +8,7 @@ use Rattle.reference.specs.Means.{world_of, account_of, limits_of}
 use Rattle.reference.proofs.Payments.{paid_out, not_paid_out}
 use Rattle.reference.proofs.Places.{account_read, paid_world}
 use Rattle.reference.proofs.paying.pay_out.Goals as goal
-use Rattle.reference.proofs.paying.pay_out.Goals.{After-need-of}
+use Rattle.reference.proofs.paying.pay_out.Goals.{After-need_of}
 
 pub returns-then-a-len : goal.returns-then-a-len
 returns-then-a-len c =
@@ -22,19 +22,19 @@ pub need_of-requires : goal.need_of-requires
 need_of-requires c = record { here = simp length-map (search rules); fit = c.requires.fit }
 
 -- the account that was read, and what it may lose
-read : (c : goal.After-need-of) → account (world_of c.args.market.now) c.args.account ≡ account_of c.index.result.now
+read : (c : goal.After-need_of) → account (world_of c.args.market.now) c.args.account ≡ account_of c.index.result.now
 read c =
     let here : c.args.account < vec_len c.args.market.now.accounts = search rules in
     account_read c.args.market.now c.args.account c.index.result.now here (rw c.from-a.ensures at c.index.ensures)
 
 -- what is known once the need is counted: the account's money, its range, and that the need is not below 0
-record Counted (c : goal.After-need-of) : Type 0 where
+record Counted (c : goal.After-need_of) : Type 0 where
   is : (account (world_of c.args.market.now) c.args.account).cash ≡ c.index.result.now.cash
   high : c.index.result.now.cash ≤ℤ pos 1125899906842624
   low : pos 0 ≤ℤ c.need_of.result
   here : c.args.account < length (world_of c.args.market.now).accounts
 
-counted : (c : goal.After-need-of) → Counted c
+counted : (c : goal.After-need_of) → Counted c
 counted c =
     let r = ap (λ y. y.cash) (read c) in
     let h : c.args.account < length (world_of c.args.market.now).accounts = simp length-map (search rules) in
@@ -52,7 +52,7 @@ counted c =
 
 pub returns-then-need_of-from : goal.returns-then-need_of-from
 returns-then-need_of-from c =
-    let k = counted (goal.at.returns-then-need_of-from c).After-need-of in
+    let k = counted (goal.at.returns-then-need_of-from c).After-need_of in
     let r = k.is in
     record {
       after = λ b. not_paid_out (limits_of c.args.limits b) (world_of c.args.market.now) c.args.account c.args.amount
@@ -61,15 +61,15 @@ returns-then-need_of-from c =
     }
 
 pub overflow_cast-amount : goal.overflow_cast-amount
-overflow_cast-amount c = let k = counted (goal.at.overflow_cast-amount c).After-need-of in omega (arith, ints, k.high, k.low)
+overflow_cast-amount c = let k = counted (goal.at.overflow_cast-amount c).After-need_of in omega (arith, ints, k.high, k.low)
 
 pub overflow_sub-cash : goal.overflow_sub-cash
-overflow_sub-cash c = let k = counted (goal.at.overflow_sub-cash c).After-need-of in omega (arith, ints, k.high, k.low)
+overflow_sub-cash c = let k = counted (goal.at.overflow_sub-cash c).After-need_of in omega (arith, ints, k.high, k.low)
 
 pub returns : goal.returns
 unfolding with_money with_account
 returns c =
-    let k = counted (goal.at.returns c).After-need-of in
+    let k = counted (goal.at.returns c).After-need_of in
     let r = account_read c.args.market.now c.args.account c.index_mut.result.now (search rules)
     (rw c.from-a.ensures at c.index_mut.ensures.value) in
     let cash : (account (world_of c.args.market.now) c.args.account).cash -ℤ pos c.args.amount ≡

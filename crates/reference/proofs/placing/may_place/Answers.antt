@@ -5,9 +5,9 @@ use Rattle.reference.specs.Means.{world_of, order_of, limits_of}
 use Rattle.reference.specs.Parts.{well_formed}
 use Rattle.reference.proofs.Placings.{Well, well_tells, may_is}
 use Rattle.reference.proofs.placing.may_place.Goals as goal
-use Rattle.reference.proofs.placing.may_place.Goals.{Else-not-is-well-formed}
+use Rattle.reference.proofs.placing.may_place.Goals.{Else-not-is_well_formed}
 
-well : (c : goal.Else-not-is-well-formed) →
+well : (c : goal.Else-not-is_well_formed) →
     Well (limits_of c.args.limits (λ k. true)) (world_of c.args.market.now) c.args.order.account c.args.order.item
     c.args.order.left
 well c =
@@ -31,8 +31,8 @@ returns-then-not-is_well_formed c =
 
 pub has_room-requires : goal.has_room-requires
 has_room-requires c =
-    let w = well (goal.at.has_room-requires c).Else-not-is-well-formed in
-    record { here = (w.account_in, w.item-in); fit = c.requires.fit }
+    let w = well (goal.at.has_room-requires c).Else-not-is_well_formed in
+    record { here = (w.account_in, w.item_in); fit = c.requires.fit }
 
 pub returns-then-not-has_room : goal.returns-then-not-has_room
 returns-then-not-has_room c =
@@ -49,7 +49,7 @@ returns-then-not-has_room c =
 
 pub would_cover-requires : goal.would_cover-requires
 would_cover-requires c =
-    let w = well (goal.at.would_cover-requires c).Else-not-is-well-formed in
+    let w = well (goal.at.would_cover-requires c).Else-not-is_well_formed in
     record { here = w.account_in; fit = c.requires.fit; room = (omega (arith, w.room, c.requires.room.0), omega (arith, w.room, c.requires.room.1)) }
 
 pub returns : goal.returns

@@ -11,7 +11,7 @@ use Rattle.reference.specs.Parts.{after, filled}
 use Rattle.reference.proofs.Fills.{after_more, after_one}
 use Rattle.reference.proofs.Placings.{not_placed, placed, counted_is}
 use Rattle.reference.proofs.placing.place.Goals as goal
-use Rattle.reference.proofs.placing.place.Goals.{Else-not-may-place}
+use Rattle.reference.proofs.placing.place.Goals.{Else-not-may_place}
 
 pub push_reserved-requires : goal.push_reserved-requires
 push_reserved-requires c =
@@ -39,7 +39,7 @@ returns-then-not-may_place c =
     }
 
 -- the order is taken: what is said, and that its number can be counted
-record Taken (c : goal.Else-not-may-place) : Type 0 where
+record Taken (c : goal.Else-not-may_place) : Type 0 where
   says : (k : ℕ → Bool) → says_it (limits_of c.args.limits k) (world_of c.args.market.now)
       (world.place c.args.order.account c.args.order.item (side_of c.args.order.side) c.args.order.price c.args.order.left) ≡
       after (done c.args.market.now.next ∷ []) (filled (counted (world_of c.args.market.now)) (order_of c.args.order))
@@ -48,7 +48,7 @@ record Taken (c : goal.Else-not-may-place) : Type 0 where
   room : vec_len c.args.reports.now + suc (length (filled (counted (world_of c.args.market.now)) (order_of c.args.order)).1) ≤ vec_capacity
       c.args.reports.now
 
-is_taken : (c : goal.Else-not-may-place) → Taken c
+is_taken : (c : goal.Else-not-may_place) → Taken c
 unfolding new_order counted
 is_taken c =
     let k = c.requires.sound.0 in
@@ -80,16 +80,16 @@ is_taken c =
     }
 
 pub push_reserved-requires-2 : goal.push_reserved-requires-2
-push_reserved-requires-2 c = omega (arith, (is_taken (goal.at.push_reserved-requires-2 c).Else-not-may-place).room)
+push_reserved-requires-2 c = omega (arith, (is_taken (goal.at.push_reserved-requires-2 c).Else-not-may_place).room)
 
 pub overflow_add-market : goal.overflow_add-market
 overflow_add-market c =
-    let t = is_taken (goal.at.overflow_add-market c).Else-not-may-place in
+    let t = is_taken (goal.at.overflow_add-market c).Else-not-may_place in
     omega (arith, t.number, ap (λ v. v.next) c.may_place.ensures.same)
 
 pub fill-requires : goal.fill-requires
 fill-requires c =
-    let t = is_taken (goal.at.fill-requires c).Else-not-may-place in
+    let t = is_taken (goal.at.fill-requires c).Else-not-may_place in
     let e = counted_is c.may_place.new.market (world_of c.args.market.now) c.may_place.ensures.same in
     record {
       filling = rw (e, c.may_place.ensures.room) t.filling;
@@ -98,7 +98,7 @@ fill-requires c =
 
 pub returns : goal.returns
 returns c =
-    let t = is_taken (goal.at.returns c).Else-not-may-place in
+    let t = is_taken (goal.at.returns c).Else-not-may_place in
     let w = world_of c.args.market.now in
     let rs = map report_of (vec_items c.args.reports.now) in
     let e = counted_is c.may_place.new.market w c.may_place.ensures.same in

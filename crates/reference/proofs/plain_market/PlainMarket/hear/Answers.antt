@@ -68,17 +68,15 @@ invariant_of-self c =
     let e : world_of c.obey.new.market ≡ (says z w q).0 = ap (λ p. p.0) (after_it c) in
     let l = leads_says z w q (sound_inv z w m.sound) in
     let a = ap (λ v. length v.accounts) e ∙ l.accounts in
-    let i = ap (λ v. length v.items) e ∙ l.items in (
-      subst (Sound z) (sym e) (sound_says z w q m.sound),
-      (
-        sizes_test m.limits k (world_of c.obey.new.market)
-            (subst (Sized z) (sym e) (sized_says z w q m.sound (sizes_tell m.limits k w m.sized))),
-        (
-          omega (arith, m.places, c.obey.ensures.room.0),
-          (rw (a, i) (omega (arith, m.room, c.obey.ensures.room.1, c.clear.ensures.capacity)), tt),
-        ),
-      ),
-    )
+    let i = ap (λ v. length v.items) e ∙ l.items in
+    record {
+      sound = subst (Sound z) (sym e) (sound_says z w q m.sound);
+      sized =
+          sizes_test m.limits k (world_of c.obey.new.market)
+          (subst (Sized z) (sym e) (sized_says z w q m.sound (sizes_tell m.limits k w m.sized)));
+      places = omega (arith, m.places, c.obey.ensures.room.0);
+      room = rw (a, i) (omega (arith, m.room, c.obey.ensures.room.1, c.clear.ensures.capacity));
+    }
 
 pub returns-then-has : goal.returns-then-has
 returns-then-has c =

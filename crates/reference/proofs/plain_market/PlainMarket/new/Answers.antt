@@ -25,10 +25,13 @@ invariant_of-result c =
     let r = c.in_ok-reports.ensures.capacity in
     let q : suc (max c.orders.result ((header_of c.args.header.now).accounts * length (header_of c.args.header.now).items)) ≤ vec_capacity
     c.in_ok-reports.reports =
-    rw (c.orders.ensures.value, ← c.most_reports.ensures) r in (
-      subst (Sound z) (sym e) (sound_first z n.items n.accounts (items_sound n.items p.1)),
-      (rw (a, i, c.orders.ensures.value, c.money.ensures.value) p.0, (omega (arith, m.1, c.orders.ensures.value), (rw (a, i) q, tt))),
-    )
+    rw (c.orders.ensures.value, ← c.most_reports.ensures) r in
+    record {
+      sound = subst (Sound z) (sym e) (sound_first z n.items n.accounts (items_sound n.items p.1));
+      sized = rw (a, i, c.orders.ensures.value, c.money.ensures.value) p.0;
+      places = omega (arith, m.1, c.orders.ensures.value);
+      room = rw (a, i) q;
+    }
 
 pub returns : goal.returns
 returns c = (
