@@ -1,5 +1,5 @@
 -- Writes of whole blocks: the number of a block and what it then holds. Assumes nothing: these are definitions.
-use Rattle.std.specs.Prelude.{◌≡◌, ℕ, suc, ◌<◌, true, ◌≢◌, List, [], ◌∷◌, map, length, slice_index_or}
+use Rattle.std.specs.Prelude.{◌≡◌, ℕ, suc, ◌<◌, true, ◌≢◌, List, [], ◌∷◌, slice_index_or}
 use Rattle.std.specs.List.{AllByRecursion as All}
 use Rattle.blocks.specs.Disc.{Disc, is_block}
 

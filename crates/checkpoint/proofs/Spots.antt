@@ -1,14 +1,13 @@
 -- Which word of a body is which number of the market.
-use Rattle.std.proofs.Common.{◌≡◌, ℕ, zero, suc, ◌+◌, ◌-◌, ◌*◌, ◌<◌, ◌≤◌, List, [], ◌∷◌, ◌++◌, map, length, get_or, sym, refl, ap, ◌∙◌, mul-le-mul_right, arith, length-append}
+use Rattle.std.proofs.Common.{◌≡◌, ℕ, suc, ◌+◌, ◌-◌, ◌*◌, ◌<◌, ◌≤◌, List, [], ◌∷◌, ◌++◌, length, get_or, refl, ap, ◌∙◌, mul-le-mul_right, arith, length-append}
 use Rattle.std.specs.List.{flat_map, AllByRecursion as All}
 use Rattle.std.proofs.lemmas.List.{get_or_append_left, get_or-append_right, length-map}
-use Rattle.std.proofs.ByRecursion.{All-from_get_or, All-weaker}
 use Rattle.venue.specs.Ranges.{Ranged}
 use Rattle.venue.specs.World.{Account, Item, Order, World}
 use Rattle.checkpoint.specs.Body.{account_words, head_words, item_words, market_words, order_words}
 use Rattle.checkpoint.specs.Reading.{account_at, accounts_at, orders_at}
 use Rattle.checkpoint.specs.Words.{word_of}
-use Rattle.checkpoint.proofs.Joins.{Even-rows, get_or_joined, get_or_row, length_joined}
+use Rattle.checkpoint.proofs.Joins.{Even-rows, get_or_joined, length_joined}
 
 -- a market of k items and n accounts, in range
 pub record Storable (k n : ℕ) (w : World) : Type 0 where

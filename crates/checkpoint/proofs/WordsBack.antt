@@ -1,8 +1,7 @@
 -- Words that were written are read back.
-use Rattle.std.proofs.Common.{◌≡◌, ℕ, zero, suc, ◌+◌, ◌*◌, ◌/◌, ◌%◌, ◌<◌, ◌≤◌, List, [], ◌∷◌, ◌++◌, length, get_or, drop, sym, refl, ap, ◌∙◌, append_assoc, add_assoc, mod-eq_of_lt, arith, length-append}
-use Rattle.std.specs.List.{flat_map, AllByRecursion as All}
+use Rattle.std.proofs.Common.{◌≡◌, ℕ, zero, suc, ◌+◌, ◌*◌, ◌/◌, ◌%◌, ◌<◌, List, [], ◌∷◌, ◌++◌, length, get_or, drop, refl, ap, ◌∙◌, append_assoc, add_assoc, arith}
 use Rattle.std.proofs.lemmas.List.{get_or-drop}
-use Rattle.wire.specs.Number.{eight, eight_of, four, four_of, two, two_of}
+use Rattle.wire.specs.Number.{eight, eight_of, four_of, two_of}
 use Rattle.checkpoint.specs.Words.{bytes_of, word}
 
 two_join : (n : ℕ) → n % 256 + n / 256 % 256 * 256 ≡ n % 65536

@@ -1,5 +1,5 @@
 -- The market on a disc, or why the disc is refused. Assumes nothing: these are definitions.
-use Rattle.std.specs.Prelude.{ℕ, ◌+◌, ◌%◌, Bool, not, ◌||◌, List, [], length, is_some, Some, None, Option, slice_index_or}
+use Rattle.std.specs.Prelude.{ℕ, ◌+◌, ◌%◌, Bool, not, ◌||◌, [], length, is_some, Some, None, Option, slice_index_or}
 use Rattle.venue.specs.World.{Limits, World, first, pick, run}
 use Rattle.wire.specs.declared.refusal.Refusal.{Refusal}
 use Rattle.wire.specs.declared.refusal.Refusal.TheVariants.{Layout}

@@ -1,6 +1,6 @@
 -- Where everything lies behind the first blocks of a disc: two areas, each a commit block, a checkpoint's body and a journal.
 -- Assumes nothing: these are definitions.
-use Rattle.std.specs.Prelude.{ℕ, ◌+◌, ◌≤◌, List, [], length, slice_index_or}
+use Rattle.std.specs.Prelude.{ℕ, ◌+◌, ◌≤◌, [], length, slice_index_or}
 use Rattle.blocks.specs.Disc.{Disc, row}
 use Rattle.journal.specs.Format.{Format}
 

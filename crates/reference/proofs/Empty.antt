@@ -1,5 +1,5 @@
 -- A row with nothing in it.
-use Rattle.std.proofs.Common.{◌≡◌, ℕ, List, [], ◌∷◌, map, length, vec_items, vec_len, Vec, refl, ap, ◌∙◌, arith}
+use Rattle.std.proofs.Common.{◌≡◌, List, [], ◌∷◌, map, length, vec_items, vec_len, Vec, refl, arith}
 use Rattle.std.specs.declared.alloc.Global.{Global}
 use Rattle.venue.specs.World.{World, Report}
 use Rattle.wire.specs.Means.{report_of}

@@ -1,7 +1,7 @@
 -- An evening's message by what is asked of it.
-use Rattle.std.proofs.Common.{◌≡◌, ℕ, ◌+◌, ◌*◌, ◌≤◌, Bool, true, false, ◌&&◌, leb, List, [], ◌∷◌, length, refl, ap, ◌∙◌, ⊎_elim, arith}
+use Rattle.std.proofs.Common.{◌≡◌, ℕ, ◌+◌, ◌*◌, ◌≤◌, true, false, ◌&&◌, leb, List, [], ◌∷◌, length, ⊎_elim, arith}
 use Rattle.std.proofs.lemmas.Bool.{and_parts, cases_Bool, le-leb, leb-true}
-use Rattle.venue.specs.World.{World, Item, Limits, pick, prices_fit, new_items, paid, says_it, end_day, done, no}
+use Rattle.venue.specs.World.{World, Item, Limits, prices_fit, new_items, paid, says_it, end_day, done, no}
 use Rattle.wire.specs.Means.{column, message_of}
 use Rattle.wire.specs.declared.message.Message.TheVariants.{EndDay}
 use Rattle.reference.proofs.Payments.{by_failed}

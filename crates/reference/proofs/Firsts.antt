@@ -1,11 +1,10 @@
 -- The first market, as it is made.
-use Rattle.std.proofs.Common.{◌≡◌, ℕ, zero, suc, ◌+◌, ◌<◌, ◌≤◌, true, ◌&&◌, List, [], ◌∷◌, ◌++◌, length, get_or, replicate, sym, refl, ap, ◌∙◌, le_of_suc-le-suc, add-one, arith}
+use Rattle.std.proofs.Common.{◌≡◌, ℕ, zero, suc, ◌+◌, true, List, [], ◌∷◌, ◌++◌, length, replicate, sym, refl, ap, ◌∙◌, le_of_suc-le-suc, add-one, arith}
 use lib.ListN.{length-replicate}
 use Rattle.disc.specs.Numbers.{items_fit}
-use Rattle.std.proofs.lemmas.Bool.{and_parts}
 use Rattle.std.proofs.lemmas.Bool.Decides.{nat_tests}
 use Rattle.venue.specs.Promise.{SoundItems}
-use Rattle.venue.specs.World.{Item, Account, World, first, no_item}
+use Rattle.venue.specs.World.{Item, first}
 
 pub replicate_more : {A : Type 0} (n : ℕ) (x : A) → replicate n x ++ x ∷ [] ≡ replicate (n + 1) x
 replicate_more n x = go n x ∙ ap (λ k. replicate k x) (sym (add-one n))

@@ -1,10 +1,10 @@
 -- Tearing up, step by step.
-use Rattle.std.proofs.Common.{◌≡◌, ℕ, zero, suc, ◌+◌, ◌-◌, ◌<◌, ◌≤◌, Bool, true, false, ◌&&◌, ◌||◌, List, [], ◌∷◌, ◌++◌, length, ℤ, pos, neg_ℤ, ◌≤ℤ◌, sym, refl, ap, ◌∙◌, subst, ⊎_elim, append_assoc, arith}
+use Rattle.std.proofs.Common.{◌≡◌, ℕ, suc, true, false, List, [], ◌∷◌, ◌++◌, length, ℤ, pos, neg_ℤ, sym, refl, ap, ⊎_elim, append_assoc, arith}
 use lib.Signed.{lt_z}
 use Rattle.std.proofs.lemmas.Int.{ints}
 use Rattle.std.proofs.lemmas.Bool.{cases_Bool}
-use Rattle.venue.specs.World.{World, Report, Limits, says_it, begin_day, done, no, account, held, item, opposite, signed, gets, tear, tear_items}
-use Rattle.venue.specs.World.{tear_all, torn, covered}
+use Rattle.venue.specs.World.{World, Report, Limits, says_it, begin_day, done, no, account, held, item, opposite, signed, gets, tear}
+use Rattle.venue.specs.World.{tear_all, torn}
 use Rattle.reference.specs.Parts.{after, amount, torn_one}
 
 pub opposite_above : (h g : ℤ) → lt_z (pos 0) h ≡ true → lt_z g (pos 0) ≡ opposite h g

@@ -11,7 +11,6 @@ use Rattle.reference.specs.Means.{account_of, world_of}
 use Rattle.reference.specs.declared.market.Account.{Account}
 use Rattle.reference.specs.declared.market.Market.{Market}
 use Rattle.reference.specs.declared.market.Order.{Order}
-use Rattle.reference.specs.declared.market.Position.{Position}
 
 -- what a read past the end of a row would give
 abbrev pub blank_order : Order

@@ -1,5 +1,5 @@
 -- A message that places an order, by what is asked of it.
-use Rattle.std.proofs.Common.{◌≡◌, ℕ, ◌+◌, ◌<◌, ◌≤◌, Bool, true, false, ◌&&◌, ltb, leb, List, [], ◌∷◌, ◌++◌, length, sym, refl, ap, ◌∙◌, add-one, arith}
+use Rattle.std.proofs.Common.{◌≡◌, ℕ, ◌+◌, ◌<◌, Bool, true, false, ◌&&◌, ltb, leb, [], ◌∷◌, ◌++◌, length, refl, ap, add-one, arith}
 use Rattle.std.proofs.lemmas.Bool.Decides.{nat_tests}
 use Rattle.venue.specs.Turn.{may_place}
 use Rattle.venue.specs.World.{World, Limits, Side, pick, item, account, held, abs, standing, covered, new_order, counted, says_it, place, done, no}

@@ -1,14 +1,14 @@
 -- What a market keeps gives the room that the program needs.
-use Rattle.std.proofs.Common.{◌≡◌, ℕ, ◌<◌, ◌≤◌, Bool, true, false, List, [], length, ℤ, pos, negsuc, refl, arith}
+use Rattle.std.proofs.Common.{◌≡◌, ℕ, ◌<◌, ◌≤◌, Bool, true, false, List, length, ℤ, pos, negsuc, refl, arith}
 use Rattle.std.proofs.ByRecursion.{All-get_or}
 use Rattle.std.proofs.lemmas.Int.{ints}
 use Rattle.std.specs.List.{AllByRecursion as All}
 use Rattle.venue.specs.Invariant.{Inv, Wide}
-use Rattle.venue.specs.Ranges.{Ranged, ItemRange, OrderRange}
+use Rattle.venue.specs.Ranges.{Ranged, ItemRange}
 use Rattle.venue.specs.Sizes.{Sized, Small}
 use Rattle.venue.specs.Tearing.{Tearing}
 use Rattle.venue.specs.Turn.{Turn}
-use Rattle.venue.specs.World.{World, Order, Limits, Account, abs, account, end_day, item, new_items, no_item, nobody, paid, prices_fit, says, says_it}
+use Rattle.venue.specs.World.{World, Order, Limits, abs, account, end_day, item, no_item, nobody, paid, prices_fit, says, says_it}
 use Rattle.venue.proofs.RangesMarket.{cash_range, sized_says, sized_small, sound_range, turn_range, tearing_range}
 use Rattle.venue.proofs.Sounds.{inv_sound, sound_inv, sound_says, tearing_begins}
 use Rattle.reference.specs.Conditions.{Fit, Morning, Roomy, Settles, SmallSizes, Standing, Within}

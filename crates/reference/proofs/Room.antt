@@ -1,8 +1,8 @@
 -- A market whose numbers are small stays one when an account gets some of an item.
-use Rattle.std.proofs.Common.{◌≡◌, ℕ, ◌+◌, ◌*◌, ◌<◌, ◌≤◌, List, length, get_or, set, ℤ, pos, ◌+ℤ◌, ◌-ℤ◌, ◌*ℤ◌, neg_ℤ, sym, refl, ap, subst, ⊎_elim, arith, length-set, get_or-set_other, get_or-set_same}
+use Rattle.std.proofs.Common.{◌≡◌, ℕ, ◌+◌, ◌*◌, ◌<◌, ◌≤◌, List, length, get_or, set, ℤ, pos, ◌+ℤ◌, ◌-ℤ◌, ◌*ℤ◌, sym, refl, subst, ⊎_elim, arith, length-set, get_or-set_other, get_or-set_same}
 use Rattle.std.proofs.lemmas.Int.{ints}
 use Rattle.std.proofs.lemmas.Bool.{cases_eq}
-use Rattle.venue.specs.World.{World, Account, Order, account, held, item, gets, with_account, with_orders, nobody}
+use Rattle.venue.specs.World.{World, Order, account, held, item, gets, with_account, with_orders, nobody}
 use Rattle.reference.specs.Conditions.{Within, Roomy}
 use Rattle.reference.proofs.Products.{times_within}
 

@@ -1,5 +1,5 @@
 -- An evening's prices and gains, item by item.
-use Rattle.std.proofs.Common.{◌≡◌, ℕ, zero, suc, ◌+◌, ◌-◌, ◌*◌, ◌<◌, ◌≤◌, Bool, true, false, ◌&&◌, leb, List, [], ◌∷◌, map, length, get_or, drop, pos, ◌+ℤ◌, ◌-ℤ◌, ◌*ℤ◌, sym, refl, ap, ◌∙◌, le_of_suc-le-suc, add-one, arith, drop-cons}
+use Rattle.std.proofs.Common.{◌≡◌, ℕ, zero, suc, ◌+◌, ◌-◌, ◌*◌, ◌<◌, ◌≤◌, Bool, true, false, ◌&&◌, leb, List, [], ◌∷◌, map, length, get_or, drop, pos, ◌+ℤ◌, ◌-ℤ◌, ◌*ℤ◌, refl, ap, le_of_suc-le-suc, add-one, arith, drop-cons}
 use Rattle.std.proofs.lemmas.List.{drop_all}
 use Rattle.venue.specs.World as world
 use Rattle.venue.specs.World.{prices_fit, gain, held, paid, new_items, nobody, no_item}

@@ -1,14 +1,11 @@
 -- A plain market can hear a message, and still can after it.
-use Rattle.std.proofs.Common.{◌≡◌, ℕ, suc, ◌+◌, ◌*◌, ◌≤◌, max, Bool, true, false, ◌&&◌, [], ◌∷◌, length, sym, refl, ap, ◌∙◌, subst, arith}
+use Rattle.std.proofs.Common.{◌≡◌, ℕ, ◌≤◌, Bool, true, false, [], ◌∷◌, length, refl, arith}
 use Rattle.disc.specs.Numbers.{counts_fit}
 use Rattle.std.proofs.lemmas.Bool.{le-leb}
 use Rattle.std.proofs.lemmas.Bool.Decides.{nat_tests}
-use Rattle.venue.proofs.RangesMarket.{sized_says}
-use Rattle.venue.proofs.Reports.{says_reports}
-use Rattle.venue.proofs.Sounds.{sound_says}
 use Rattle.venue.specs.Sizes.{Sized}
 use Rattle.venue.specs.Sound.{Sound}
-use Rattle.venue.specs.World.{World, Limits, Message, begin_day, cancel, end_day, kind, no, pay_in, pay_out, pick, place, says, says_it}
+use Rattle.venue.specs.World.{World, Limits, Message, begin_day, cancel, end_day, kind, no, pay_in, pay_out, place, says, says_it}
 use Rattle.reference.specs.Means.{limits_of}
 use Rattle.reference.specs.Conditions.{Standing}
 use Rattle.reference.specs.declared.limits.Limits as code

@@ -1,11 +1,11 @@
 -- A morning that is under way: what was reported and what is to come is the whole.
-use Rattle.std.proofs.Common.{◌≡◌, ℕ, suc, ◌+◌, ◌-◌, ◌<◌, ◌≤◌, true, false, List, [], ◌∷◌, ◌++◌, map, length, vec_items, vec_len, vec_capacity, Vec, sym, refl, ap, ◌∙◌, subst, ⊎_elim, add-one, arith, length-append}
+use Rattle.std.proofs.Common.{◌≡◌, ℕ, suc, ◌+◌, ◌-◌, ◌<◌, ◌≤◌, true, false, List, [], ◌++◌, map, length, vec_items, vec_len, vec_capacity, Vec, sym, refl, ap, ◌∙◌, subst, ⊎_elim, add-one, arith, length-append}
 use Rattle.std.proofs.lemmas.List.{length-map}
 use Rattle.std.proofs.lemmas.Bool.{cases_Bool}
 use Rattle.std.specs.declared.alloc.Global.{Global}
 use Rattle.venue.specs.World.{World, Report, account, covered, held, opposite, tear, tear_items, tear_all}
 use Rattle.venue.proofs.TearAll.{tears_items}
-use Rattle.venue.proofs.TearUp.{Tears, tearing_goes, tears_none, tears_tear}
+use Rattle.venue.proofs.TearUp.{Tears, tearing_goes, tears_tear}
 use Rattle.wire.specs.Means.{report_of}
 use Rattle.wire.specs.declared.report.Report as code
 use Rattle.reference.specs.Means.{world_of}

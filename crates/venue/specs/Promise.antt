@@ -1,6 +1,6 @@
 -- What the market promises. Each is a statement, a type whose proof is owed. Assumes nothing.
-use Rattle.std.specs.Prelude.{◌≡◌, ℕ, zero, suc, ◌+◌, ◌-◌, ◌*◌, ◌<◌, ◌≤◌, Bool, true, false, List, [], ◌∷◌, ◌++◌, length, take, ℤ, pos, ◌+ℤ◌, ◌≤ℤ◌, nat_le, slice_index, slice_index_or}
-use Rattle.venue.specs.World.{World, Item, Order, Account, Limits, Message, Report, Side, buy, sell, run, reports, says, first, need, account, held, no_order, no_item, written, torn_off}
+use Rattle.std.specs.Prelude.{◌≡◌, ℕ, suc, ◌-◌, ◌<◌, ◌≤◌, Bool, true, false, List, [], ◌∷◌, length, take, ℤ, pos, ◌+ℤ◌, ◌≤ℤ◌, nat_le, slice_index, slice_index_or}
+use Rattle.venue.specs.World.{World, Item, Account, Limits, Message, Report, buy, sell, run, reports, says, first, need, account, held, no_order, no_item, written, torn_off}
 
 -- reports that were handed out: all, or all but the last message's
 unfoldable pub handed : Bool → List (List Report) → List (List Report)

@@ -1,4 +1,4 @@
-use Rattle.std.proofs.Common.{◌≡◌, ◌+◌, ◌*◌, true, false, ◌&&◌, map, length, get_or, drop, sym, ap, ◌∙◌, arith}
+use Rattle.std.proofs.Common.{◌≡◌, ◌+◌, ◌*◌, ◌&&◌, map, length, get_or, drop, sym, ap, ◌∙◌, arith}
 use Rattle.venue.specs.World.{prices_fit}
 use Rattle.wire.specs.Means.{item_of}
 use Rattle.wire.specs.Number.{four}

@@ -1,11 +1,11 @@
-use Rattle.std.proofs.Common.{◌≡◌, ℕ, ◌+◌, ◌*◌, ◌<◌, ◌≤◌, true, false, [], ◌∷◌, map, length, vec_items, vec_len, sym, ap, ◌∙◌, subst, arith, rules}
+use Rattle.std.proofs.Common.{◌≡◌, ℕ, ◌+◌, ◌*◌, ◌<◌, ◌≤◌, true, map, length, vec_items, vec_len, sym, ap, ◌∙◌, arith, rules}
 use Rattle.std.proofs.lemmas.List.{length-map}
 use Rattle.std.proofs.lemmas.Bool.{false≢true}
 use Rattle.venue.specs.World as world
 use Rattle.venue.specs.World.{account, prices_fit}
 use Rattle.wire.specs.Means.{column, item_of}
 use Rattle.reference.specs.Means.{world_of, account_of, limits_of}
-use Rattle.reference.proofs.Evenings.{May-end, not_ended, ended}
+use Rattle.reference.proofs.Evenings.{not_ended, ended}
 use Rattle.reference.proofs.evening.end_day.Goals as goal
 use Rattle.reference.proofs.evening.end_day.Goals.{After-all_fit, then-bytes-long-via-then-bytes-long}
 use Rattle.reference.proofs.evening.end_day.Goals.{then-bytes-long-via-else-bytes-long+then-prices-bytes}

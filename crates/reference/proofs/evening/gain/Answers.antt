@@ -1,5 +1,4 @@
 use Rattle.std.proofs.Common.{◌≡◌, ◌+◌, ◌*◌, ◌<◌, map, length, get_or, drop, pos, ◌+ℤ◌, ◌-ℤ◌, ◌*ℤ◌, vec_items, sym, ap, ◌∙◌, arith, w64, to_z, of_z, rules}
-use mir.Syntax.{w128}
 use Rattle.std.proofs.lemmas.Int.{ints, to_z-of_z}
 use Rattle.venue.specs.World as world
 use Rattle.venue.specs.World.{held}

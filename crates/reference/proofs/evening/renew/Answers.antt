@@ -1,6 +1,5 @@
-use Rattle.std.proofs.Common.{◌≡◌, ◌+◌, ◌*◌, ◌<◌, map, length, get_or, vec_items, vec_len, sym, refl, ap, ◌∙◌, arith, rules}
+use Rattle.std.proofs.Common.{◌≡◌, ◌+◌, ◌*◌, ◌<◌, map, length, get_or, vec_items, vec_len, refl, ap, ◌∙◌, arith}
 use Rattle.std.proofs.lemmas.List.{length-map}
-use Rattle.venue.specs.World as world
 use Rattle.venue.specs.World.{new_items, no_item}
 use Rattle.wire.specs.Means.{column, item_of}
 use Rattle.wire.specs.Number.{four}

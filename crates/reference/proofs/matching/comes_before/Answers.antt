@@ -1,7 +1,7 @@
-use Rattle.std.proofs.Common.{◌≡◌, ◌<◌, true, false, not, ◌&&◌, ltb, map, length, get_or, sym, ap, ◌∙◌, arith, rules}
+use Rattle.std.proofs.Common.{◌≡◌, ◌<◌, not, map, length, get_or, sym, ap, ◌∙◌}
 use Rattle.std.proofs.lemmas.List.{get_or-map, length-map}
 use Rattle.std.proofs.lemmas.Bool.{lt-ltb, le-ltb}
-use Rattle.venue.specs.World.{meets, better, no_order}
+use Rattle.venue.specs.World.{meets, no_order}
 use Rattle.reference.specs.Means.{order_of}
 use Rattle.reference.specs.Parts.{first_of}
 use Rattle.reference.proofs.Places.{blank_order}

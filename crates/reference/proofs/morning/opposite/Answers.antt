@@ -1,4 +1,4 @@
-use Rattle.std.proofs.Common.{◌≡◌, ◌∙◌, w64}
+use Rattle.std.proofs.Common.{◌∙◌, w64}
 use Rattle.std.proofs.lemmas.Int.{to_z-of_z}
 use Rattle.reference.proofs.Mornings.{opposite_above, opposite_below, opposite_none}
 use Rattle.reference.proofs.morning.opposite.Goals as goal

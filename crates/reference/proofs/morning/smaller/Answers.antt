@@ -1,7 +1,7 @@
-use Rattle.std.proofs.Common.{◌≡◌, ◌≤◌, pos, neg_ℤ, nat_abs, sym, ap, ◌∙◌, arith, w64, rules}
+use Rattle.std.proofs.Common.{◌≡◌, ◌≤◌, nat_abs, sym, ap, ◌∙◌, arith, w64}
 use Rattle.std.proofs.lemmas.Int.{ints, to_z-of_z}
 use Rattle.std.proofs.lemmas.Bool.Decides.{nat_tests}
-use Rattle.venue.specs.World.{lesser, abs, signed}
+use Rattle.venue.specs.World.{lesser, abs}
 use Rattle.reference.proofs.Products.{abs_is}
 use Rattle.reference.proofs.Mornings.{signed_below, signed_above}
 use Rattle.reference.proofs.morning.smaller.Goals as goal

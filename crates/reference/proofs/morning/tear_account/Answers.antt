@@ -1,5 +1,4 @@
-use Rattle.std.proofs.Common.{◌≡◌, map, length, vec_items, sym, refl, ap, ◌∙◌, arith}
-use Rattle.venue.specs.World as world
+use Rattle.std.proofs.Common.{map, vec_items, sym, refl, ◌∙◌}
 use Rattle.wire.specs.Means.{report_of}
 use Rattle.reference.specs.Means.{world_of}
 use Rattle.reference.specs.Parts.{torn_account}

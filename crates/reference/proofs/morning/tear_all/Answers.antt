@@ -1,9 +1,9 @@
-use Rattle.std.proofs.Common.{◌≡◌, ◌+◌, ◌-◌, ◌<◌, ◌≤◌, length, sym, refl, ap, ◌∙◌, subst, arith, rules}
+use Rattle.std.proofs.Common.{◌≡◌, ◌+◌, ◌-◌, ◌<◌, ◌≤◌, length, subst, arith, rules}
 use Rattle.std.proofs.lemmas.List.{length-map}
 use Rattle.venue.specs.World as world
 use Rattle.reference.specs.Means.{world_of}
-use Rattle.reference.specs.Parts.{torn_account, torn_one}
-use Rattle.reference.proofs.UnderWay.{Onward, UnderWay, begins, ends, goes_on, step_room, all_from, onward_account, all_end}
+use Rattle.reference.specs.Parts.{torn_account}
+use Rattle.reference.proofs.UnderWay.{UnderWay, begins, ends, goes_on, step_room, all_from, onward_account, all_end}
 use Rattle.reference.proofs.morning.tear_all.Goals as goal
 
 pub loop-a-init : goal.loop-a-init

@@ -1,9 +1,8 @@
-use Rattle.std.proofs.Common.{◌≡◌, ◌+◌, ◌-◌, ◌<◌, ◌≤◌, length, sym, refl, ap, ◌∙◌, subst, arith, rules}
+use Rattle.std.proofs.Common.{◌≡◌, ◌+◌, ◌-◌, ◌<◌, ◌≤◌, length, subst, arith, rules}
 use Rattle.std.proofs.lemmas.List.{length-map}
 use Rattle.venue.specs.World as world
 use Rattle.reference.specs.Means.{world_of}
-use Rattle.reference.specs.Parts.{torn_account, torn_one}
-use Rattle.reference.proofs.UnderWay.{Onward, UnderWay, begins, ends, goes_on, step_room, items_from, onward_item, items_end}
+use Rattle.reference.proofs.UnderWay.{UnderWay, begins, ends, goes_on, step_room, items_from, onward_item, items_end}
 use Rattle.reference.proofs.morning.tear_items.Goals as goal
 
 pub loop-k-init : goal.loop-k-init

@@ -1,12 +1,11 @@
-use Rattle.std.proofs.Common.{◌≡◌, ◌<◌, ◌≤◌, true, false, [], ◌∷◌, ◌++◌, map, length, pos, ◌-ℤ◌, neg_ℤ, vec_items, vec_len, sym, refl, ap, ◌∙◌, arith, w64, SFits, to_z, of_z, rules}
+use Rattle.std.proofs.Common.{◌≡◌, ◌<◌, ◌≤◌, [], ◌∷◌, ◌++◌, map, length, pos, ◌-ℤ◌, neg_ℤ, vec_items, vec_len, sym, refl, ap, ◌∙◌, arith, w64, SFits, to_z, of_z, rules}
 use Rattle.std.proofs.lemmas.List.{length-map, map_push}
 use Rattle.std.proofs.lemmas.Int.{ints, to_z-of_z}
-use Rattle.venue.specs.World as world
 use Rattle.venue.specs.World.{account, held, item, gets, opposite, torn}
-use Rattle.wire.specs.Means.{report_of, item_of}
+use Rattle.wire.specs.Means.{report_of}
 use Rattle.reference.specs.Means.{world_of}
-use Rattle.reference.specs.Conditions.{Roomy, Within}
-use Rattle.reference.specs.Parts.{after, amount, torn_one}
+use Rattle.reference.specs.Conditions.{Roomy}
+use Rattle.reference.specs.Parts.{after, torn_one}
 use Rattle.reference.proofs.Mornings.{torn_not, torn_made}
 use Rattle.reference.proofs.Fills.{after_none}
 use Rattle.reference.proofs.Places.{item_read}

@@ -1,4 +1,4 @@
-use Rattle.std.proofs.Common.{◌≡◌, ◌<◌, map, length, get_or, set, pos, ◌+ℤ◌, vec_items, ap, ◌∙◌, arith, rules}
+use Rattle.std.proofs.Common.{◌≡◌, ◌<◌, map, length, get_or, set, pos, vec_items, ap, arith, rules}
 use Rattle.std.proofs.lemmas.List.{map-set}
 use Rattle.std.proofs.lemmas.Int.{ints}
 use Rattle.reference.specs.Means.{held_of}

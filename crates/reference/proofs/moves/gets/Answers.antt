@@ -1,9 +1,8 @@
-use Rattle.std.proofs.Common.{◌≡◌, ◌<◌, ◌≤◌, map, length, get_or, set, pos, ◌+ℤ◌, ◌-ℤ◌, ◌*ℤ◌, vec_items, vec_len, ap, ◌∙◌, arith, w64, to_z, of_z, rules}
+use Rattle.std.proofs.Common.{◌≡◌, ◌<◌, map, get_or, set, pos, ◌+ℤ◌, ◌-ℤ◌, ◌*ℤ◌, vec_items, vec_len, ap, ◌∙◌, arith, w64, to_z, of_z, rules}
 use Rattle.std.proofs.lemmas.List.{map-set, length-map}
 use Rattle.std.proofs.lemmas.Int.{ints}
-use Rattle.venue.specs.World.{account, item, held, with_account}
-use Rattle.reference.specs.Means.{account_of, held_of, world_of}
-use Rattle.reference.specs.Conditions.{Within}
+use Rattle.venue.specs.World.{held, with_account}
+use Rattle.reference.specs.Means.{account_of, held_of}
 use Rattle.reference.proofs.Places.{account_read, item_read, gets_from}
 use Rattle.reference.proofs.Products.{account_same}
 use Rattle.reference.proofs.moves.gets.Goals as goal

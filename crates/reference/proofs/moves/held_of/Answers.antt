@@ -1,6 +1,6 @@
 use Rattle.std.proofs.Common.{◌≡◌, ◌<◌, map, length, get_or, pos, vec_items, vec_len, sym, ap, ◌∙◌, arith, w64, to_z, of_z, rules}
 use Rattle.std.proofs.lemmas.List.{length-map}
-use Rattle.std.proofs.lemmas.Int.{ints, to_z-of_z}
+use Rattle.std.proofs.lemmas.Int.{to_z-of_z}
 use Rattle.venue.specs.World.{account, held}
 use Rattle.reference.specs.Means.{world_of, account_of, held_of}
 use Rattle.reference.proofs.Places.{account_read, read_map}

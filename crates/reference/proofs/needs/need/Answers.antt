@@ -1,5 +1,4 @@
-use Rattle.std.proofs.Common.{◌≡◌, ◌<◌, map, length, get_or, pos, vec_items, sym, arith, w64, to_z, of_z, rules}
-use borrow.Author.Rules.{get_or_read}
+use Rattle.std.proofs.Common.{◌≡◌, ◌<◌, map, length, get_or, pos, vec_items, arith, w64, to_z, of_z, rules}
 use Rattle.std.proofs.lemmas.Int.{ints, to_z-of_z}
 use Rattle.venue.specs.World.{need_in, held}
 use Rattle.wire.specs.Means.{item_of}

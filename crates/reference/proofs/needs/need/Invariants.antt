@@ -1,4 +1,4 @@
-use Rattle.std.proofs.Common.{◌≡◌, ◌*◌, ◌^◌, map, drop, ◌+ℤ◌}
+use Rattle.std.proofs.Common.{◌≡◌, ◌*◌, map, drop, ◌+ℤ◌}
 use Rattle.venue.specs.World.{need_from}
 use Rattle.wire.specs.Means.{item_of}
 use Rattle.reference.specs.Means.{order_of, account_of}

@@ -1,4 +1,4 @@
-use Rattle.std.proofs.Common.{◌≡◌, vec_capacity, refl, ◌∙◌, arith}
+use Rattle.std.proofs.Common.{vec_capacity, refl, ◌∙◌, arith}
 use Rattle.reference.specs.Means.{world_of, limits_of}
 use Rattle.reference.proofs.Empty.{after_nothing}
 use Rattle.reference.proofs.Ranges.{standing_fit, standing_morning, standing_settles, standing_sizes}

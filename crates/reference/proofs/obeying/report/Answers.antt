@@ -1,7 +1,6 @@
-use Rattle.std.proofs.Common.{◌≡◌, [], ◌∷◌, ◌++◌, map, ap, ◌∙◌}
+use Rattle.std.proofs.Common.{[], ◌∷◌, ◌++◌, map, ap, ◌∙◌}
 use Rattle.wire.specs.Means.{report_of}
 use Rattle.wire.specs.declared.report.Report.TheVariants.{Taken, Refused}
-use Rattle.reference.specs.Parts.{answer}
 use Rattle.reference.proofs.Empty.{no_items}
 use Rattle.reference.proofs.obeying.report.Goals as goal
 

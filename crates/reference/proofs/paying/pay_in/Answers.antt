@@ -1,11 +1,10 @@
-use Rattle.std.proofs.Common.{◌≡◌, ◌+◌, ◌<◌, [], ◌∷◌, map, set, pos, ◌+ℤ◌, vec_items, vec_len, sym, ap, ◌∙◌, arith, w64, to_z, of_z, rules}
-use Rattle.std.proofs.lemmas.List.{length-map, map-set}
+use Rattle.std.proofs.Common.{◌≡◌, ◌+◌, ◌<◌, [], ◌∷◌, pos, ◌+ℤ◌, vec_len, sym, ap, ◌∙◌, arith, w64, to_z, of_z, rules}
+use Rattle.std.proofs.lemmas.List.{length-map}
 use Rattle.std.proofs.lemmas.Int.{ints}
 use Rattle.venue.specs.World.{account, with_money, with_account, done}
 use Rattle.reference.specs.Means.{world_of, account_of, limits_of}
 use Rattle.reference.proofs.Payments.{paid_in, not_paid_in}
 use Rattle.reference.proofs.Places.{account_read, paid_world}
-use Rattle.reference.proofs.Products.{account_same}
 use Rattle.reference.proofs.paying.pay_in.Goals as goal
 use Rattle.reference.proofs.paying.pay_in.Goals.{After-index_mut}
 

@@ -1,7 +1,6 @@
-use Rattle.std.proofs.Common.{◌≡◌, ◌<◌, [], ◌∷◌, length, pos, ◌+ℤ◌, ◌-ℤ◌, ◌≤ℤ◌, vec_len, sym, ap, ◌∙◌, arith, w64, to_z, of_z, rules}
+use Rattle.std.proofs.Common.{◌≡◌, ◌<◌, [], ◌∷◌, length, pos, ◌-ℤ◌, ◌≤ℤ◌, vec_len, sym, ap, ◌∙◌, arith, w64, to_z, of_z, rules}
 use Rattle.std.proofs.lemmas.List.{length-map}
 use Rattle.std.proofs.lemmas.Int.{ints}
-use Rattle.venue.specs.World as world
 use Rattle.venue.specs.World.{account, with_money, with_account, done}
 use Rattle.venue.proofs.Margins.{need_0}
 use Rattle.reference.specs.Means.{world_of, account_of, limits_of}

@@ -1,6 +1,6 @@
-use Rattle.std.proofs.Common.{◌≡◌, map, nat_abs, vec_items, sym, ap, ◌∙◌, arith, w64, to_z, of_z, rules}
+use Rattle.std.proofs.Common.{◌≡◌, map, nat_abs, vec_items, sym, ap, ◌∙◌, w64, to_z, of_z, rules}
 use Rattle.std.proofs.lemmas.List.{length-map}
-use Rattle.std.proofs.lemmas.Int.{ints, to_z-of_z}
+use Rattle.std.proofs.lemmas.Int.{to_z-of_z}
 use Rattle.venue.specs.World as world
 use Rattle.venue.specs.World.{account, held, abs}
 use Rattle.reference.specs.Means.{world_of, order_of}

@@ -1,5 +1,5 @@
-use Rattle.std.proofs.Common.{◌≡◌, ◌+◌, true, false, ◌&&◌, leb, [], ◌∷◌, ◌++◌, sym, refl, ap, ◌∙◌, arith, rules}
-use Rattle.venue.specs.World.{new_order, covered}
+use Rattle.std.proofs.Common.{◌≡◌, true, false, sym, refl, ◌∙◌, arith}
+use Rattle.venue.specs.World.{new_order}
 use Rattle.wire.specs.Means.{side_of}
 use Rattle.reference.specs.Means.{world_of, order_of, limits_of}
 use Rattle.reference.specs.Parts.{well_formed}

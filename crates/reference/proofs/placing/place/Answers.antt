@@ -1,7 +1,7 @@
-use Rattle.std.proofs.Common.{◌≡◌, ℕ, suc, ◌+◌, ◌<◌, ◌≤◌, Bool, true, false, [], ◌∷◌, ◌++◌, map, length, vec_items, vec_len, vec_capacity, sym, refl, ap, ◌∙◌, subst, add-one, arith, rules}
+use Rattle.std.proofs.Common.{◌≡◌, ℕ, suc, ◌+◌, ◌<◌, ◌≤◌, Bool, [], ◌∷◌, ◌++◌, map, length, vec_items, vec_len, vec_capacity, sym, refl, ap, ◌∙◌, subst, arith}
 use Rattle.std.proofs.lemmas.List.{map_push}
 use Rattle.venue.proofs.Sounds.{turn_begins}
-use Rattle.venue.specs.Turn.{Turn, may_place}
+use Rattle.venue.specs.Turn.{Turn}
 use Rattle.venue.specs.World as world
 use Rattle.venue.specs.World.{World, counted, new_order, says_it, done, no}
 use Rattle.wire.specs.Means.{report_of, side_of}

@@ -1,8 +1,7 @@
-use Rattle.std.proofs.Common.{◌≡◌, ◌-◌, ◌<◌, map, length, take, vec_items, vec_len, sym, ap, ◌∙◌, subst, rules}
+use Rattle.std.proofs.Common.{◌≡◌, ◌-◌, ◌<◌, map, length, take, vec_items, vec_len, sym, ap, ◌∙◌, subst}
 use Rattle.std.proofs.lemmas.List.{length-map, take-map}
 use Rattle.venue.specs.World.{with_orders}
 use Rattle.reference.specs.Means.{world_of, order_of}
-use Rattle.reference.specs.Conditions.{Fit}
 use Rattle.reference.proofs.Stood.{stood_fit, stood_covered, stood_gone}
 use Rattle.reference.proofs.placing.would_cover.Goals as goal
 use Rattle.reference.proofs.placing.would_cover.Goals.{After-stand}

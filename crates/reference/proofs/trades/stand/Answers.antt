@@ -1,4 +1,4 @@
-use Rattle.std.proofs.Common.{◌≡◌, map, vec_items, ap, ◌∙◌, rules}
+use Rattle.std.proofs.Common.{map, vec_items, ap, ◌∙◌, rules}
 use Rattle.std.proofs.lemmas.List.{map_push, length-map}
 use Rattle.venue.specs.World.{with_orders}
 use Rattle.reference.specs.Means.{world_of, order_of}

@@ -1,9 +1,8 @@
-use Rattle.std.proofs.Common.{◌≡◌, ◌<◌, map, length, vec_items, sym, ap, ◌∙◌, arith, w64, SFits, rules}
+use Rattle.std.proofs.Common.{◌≡◌, map, length, vec_items, ap, arith, w64, SFits, rules}
 use Rattle.std.proofs.lemmas.List.{length-map}
 use Rattle.std.proofs.lemmas.Int.{ints, to_z-of_z}
-use Rattle.venue.specs.World.{World, gets, with_orders, taken}
+use Rattle.venue.specs.World.{gets, with_orders, taken}
 use Rattle.reference.specs.Means.{world_of, order_of}
-use Rattle.reference.specs.Conditions.{Roomy}
 use Rattle.reference.proofs.ByTrade.{traded_is}
 use Rattle.reference.proofs.Room.{StillRoomy, still_roomy, roomy_orders, roomy_wider}
 use Rattle.reference.proofs.trades.trade.Goals as goal

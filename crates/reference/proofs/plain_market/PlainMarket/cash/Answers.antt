@@ -1,9 +1,7 @@
-use Rattle.std.proofs.Common.{◌≡◌, ◌<◌, ◌≤◌, length, Some, vec_items, vec_len, sym, ap, ◌∙◌, arith, w64, to_z, of_z, rules}
+use Rattle.std.proofs.Common.{◌≡◌, ◌<◌, ◌≤◌, length, Some, vec_items, sym, ap, ◌∙◌, w64, to_z, of_z, rules}
 use Rattle.std.proofs.lemmas.List.{length-map}
 use Rattle.std.proofs.lemmas.Int.{to_z-of_z}
 use Rattle.std.proofs.lemmas.Bool.{lt-ltb, le-ltb}
-use Rattle.venue.specs.World.{account}
-use Rattle.reference.specs.Means.{world_of}
 use Rattle.reference.proofs.Places.{account_read}
 use Rattle.reference.proofs.plain_market.PlainMarket.cash.Goals as goal
 

@@ -1,4 +1,4 @@
-use Rattle.std.proofs.Common.{◌≡◌, ℕ, suc, ◌*◌, ◌≤◌, max, true, false, [], ◌∷◌, ◌++◌, map, length, vec_items, vec_capacity, sym, refl, ap, ◌∙◌, subst, arith}
+use Rattle.std.proofs.Common.{◌≡◌, [], ◌∷◌, ◌++◌, map, length, vec_items, vec_capacity, sym, refl, ap, ◌∙◌, subst, arith}
 use Rattle.venue.proofs.Messages.{leads_says}
 use Rattle.venue.proofs.RangesMarket.{sized_says}
 use Rattle.venue.proofs.Reports.{says_reports}
@@ -10,7 +10,6 @@ use Rattle.venue.specs.World.{kind, says, says_it}
 use Rattle.wire.specs.Means.{kinds_of, message_of, report_of}
 use Rattle.wire.specs.declared.report.Report.TheVariants.{Refused}
 use Rattle.reference.specs.Means.{limits_of, world_of}
-use Rattle.reference.proofs.Empty.{no_items}
 use Rattle.reference.proofs.Standing.{says_any, says_built, says_not, sizes_tell, sizes_test, stands}
 use Rattle.reference.proofs.plain_market.PlainMarket.hear.Goals as goal
 use Rattle.reference.proofs.plain_market.PlainMarket.hear.Goals.{After-has, Then-has, After-obey}

@@ -1,4 +1,4 @@
-use Rattle.std.proofs.Common.{◌≡◌, suc, ◌*◌, ◌≤◌, max, true, [], map, length, vec_items, vec_capacity, sym, refl, ap, ◌∙◌, subst, arith}
+use Rattle.std.proofs.Common.{◌≡◌, suc, ◌*◌, ◌≤◌, max, map, length, vec_capacity, sym, ap, ◌∙◌, subst, arith}
 use Rattle.disc.specs.Means.{header_of}
 use Rattle.disc.specs.Numbers as disc
 use Rattle.std.proofs.lemmas.Bool.{and_parts}

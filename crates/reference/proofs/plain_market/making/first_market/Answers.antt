@@ -1,4 +1,4 @@
-use Rattle.std.proofs.Common.{◌≡◌, map, length, replicate, pos, vec_items, sym, ap, ◌∙◌, arith}
+use Rattle.std.proofs.Common.{◌≡◌, map, length, replicate, pos, vec_items, ap, ◌∙◌, arith}
 use Rattle.disc.specs.Means.{header_of}
 use Rattle.venue.specs.World.{first}
 use Rattle.wire.specs.Means.{item_of}

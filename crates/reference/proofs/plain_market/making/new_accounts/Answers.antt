@@ -1,9 +1,7 @@
-use Rattle.std.proofs.Common.{◌≡◌, [], ◌∷◌, ◌++◌, map, replicate, pos, vec_items, sym, ap, ◌∙◌}
+use Rattle.std.proofs.Common.{◌≡◌, map, replicate, pos, vec_items, ap, ◌∙◌}
 use Rattle.std.proofs.lemmas.List.{map_push}
-use Rattle.venue.specs.World as world
 use Rattle.reference.specs.Means.{account_of, held_of}
 use Rattle.reference.proofs.Firsts.{replicate_more}
-use Rattle.reference.proofs.Products.{account_same}
 use Rattle.reference.proofs.plain_market.making.new_accounts.Goals as goal
 
 pub loop-a-preserved : goal.loop-a-preserved
