@@ -1,6 +1,6 @@
 -- Writes of whole blocks: the number of a block and what it then holds. Assumes nothing: these are definitions.
 use Rattle.std.specs.Prelude.{◌≡◌, ℕ, suc, ◌<◌, true, ◌≢◌, List, [], ◌∷◌, slice_index_or}
-use Rattle.std.specs.List.{AllByRecursion as All}
+use Rattle.std.specs.List.{AllByRecursion}
 use Rattle.blocks.specs.Disc.{Disc, is_block}
 
 abbrev pub Write : Type 0
@@ -23,11 +23,11 @@ copies d (i ∷ is) = (i, slice_index_or d i []) ∷ copies d is
 
 -- all writes are of blocks of a kind
 abbrev pub AllAt : (ℕ → Type 0) → List Write → Type 0
-AllAt Q ws = All (λ (w : Write). Q w.0) ws
+AllAt Q ws = AllByRecursion (λ (w : Write). Q w.0) ws
 
 -- each is of 512 bytes
 abbrev pub Whole : List Write → Type 0
-Whole ws = All (λ (w : Write). is_block w.1 ≡ true) ws
+Whole ws = AllByRecursion (λ (w : Write). is_block w.1 ≡ true) ws
 
 -- no block is written twice
 unfoldable pub Once : List Write → Type 0

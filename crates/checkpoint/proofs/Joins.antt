@@ -1,12 +1,12 @@
 -- Rows of equal length, one behind another: how long they are together, and what stands where.
 use Rattle.std.proofs.Common.{◌≡◌, ℕ, zero, suc, ◌+◌, ◌-◌, ◌*◌, ◌/◌, ◌%◌, ◌<◌, ◌≤◌, List, [], ◌∷◌, ◌++◌, length, get_or, sym, ap, ◌∙◌, mod-lt, div-lt_iff_lt-mul, arith, length-append}
 use native.Mathlib.Nat.{mod-add-div}
-use Rattle.std.specs.List.{flat_map, AllByRecursion as All}
+use Rattle.std.specs.List.{flat_map, AllByRecursion}
 use Rattle.std.proofs.lemmas.List.{get_or_append_left, get_or-append_right}
 
 module _ {X : Type 0} (f : X → List ℕ) (w : ℕ) where
   abbrev pub Even-rows : List X → Type 0
-  Even-rows xs = All (λ (x : X). length (f x) ≡ w) xs
+  Even-rows xs = AllByRecursion (λ (x : X). length (f x) ≡ w) xs
 
   pub length_joined : (xs : List X) → Even-rows xs → length (flat_map f xs) ≡ length xs * w
   length_joined [] h = omega arith

@@ -1,6 +1,6 @@
 -- Which word of a body is which number of the market.
 use Rattle.std.proofs.Common.{◌≡◌, ℕ, suc, ◌+◌, ◌-◌, ◌*◌, ◌<◌, ◌≤◌, List, [], ◌∷◌, ◌++◌, length, get_or, refl, ap, ◌∙◌, mul-le-mul_right, arith, length-append}
-use Rattle.std.specs.List.{flat_map, AllByRecursion as All}
+use Rattle.std.specs.List.{flat_map, AllByRecursion}
 use Rattle.std.proofs.lemmas.List.{get_or_append_left, get_or-append_right, length-map}
 use Rattle.venue.specs.Ranges.{Ranged}
 use Rattle.venue.specs.World.{Account, Item, Order, World}
@@ -13,7 +13,7 @@ use Rattle.checkpoint.proofs.Joins.{Even-rows, get_or_joined, length_joined}
 pub record Storable (k n : ℕ) (w : World) : Type 0 where
   pub items : length w.items ≡ k
   pub accounts : length w.accounts ≡ n
-  pub wide : All (λ (x : Account). length x.holds ≡ k) w.accounts
+  pub wide : AllByRecursion (λ (x : Account). length x.holds ≡ k) w.accounts
   pub ranged : Ranged w
   pub few : length w.orders ≤ 65536
 
@@ -28,7 +28,7 @@ unfolding order_words
 even_orders [] = tt
 even_orders (o ∷ os) = (refl, even_orders os)
 
-even_accounts : (k : ℕ) (xs : List Account) → All (λ (x : Account). length x.holds ≡ k) xs → Even-rows account_words (1 + k) xs
+even_accounts : (k : ℕ) (xs : List Account) → AllByRecursion (λ (x : Account). length x.holds ≡ k) xs → Even-rows account_words (1 + k) xs
 unfolding account_words
 even_accounts k [] h = tt
 even_accounts k (x ∷ xs) h =

@@ -1,6 +1,6 @@
 -- What a format must keep for the rules of writing to do their work. Assumes nothing: these are definitions.
 use Rattle.std.specs.Prelude.{◌≡◌, ℕ, ◌%◌, ◌≤◌, Bool, true, false, List, [], ◌∷◌, length, take, Some, None, slice_index_or, slice_set}
-use Rattle.std.specs.List.{AllByRecursion as All}
+use Rattle.std.specs.List.{AllByRecursion}
 use Rattle.venue.specs.Sound.{Sound}
 use Rattle.venue.specs.World.{Limits, Message, World, no, says}
 use Rattle.blocks.specs.Disc.{Disc, is_block, is_disc}
@@ -27,14 +27,14 @@ pub record Lawful (c : Format) : Type 0 where
   pub body_good : (f bs : Disc) → fine f ≡ true → c.body_fault f bs ≡ None → c.good f (c.body_market f bs) ≡ true
   pub good_sound : (z : Limits) (f : Disc) (w : World) → fine f ≡ true → c.agrees z f ≡ true → c.good f w ≡ true → Sound z w
   -- a body is a row of whole blocks, has room in its place, and is read back
-  pub body_whole : (f : Disc) (w : World) (h : ℕ) → fine f ≡ true → c.good f w ≡ true → All (λ (b : List ℕ). is_block b ≡ true) (c.body f w h)
+  pub body_whole : (f : Disc) (w : World) (h : ℕ) → fine f ≡ true → c.good f w ≡ true → AllByRecursion (λ (b : List ℕ). is_block b ≡ true) (c.body f w h)
   pub body_room : (f : Disc) (w : World) (h : ℕ) → fine f ≡ true → c.good f w ≡ true → length (c.body f w h) ≤ c.body_size (slice_index_or f 0 [])
   pub body_fine :
       (f : Disc) (w : World) (h : ℕ) (bs : Disc) → fine f ≡ true → c.good f w ≡ true → length bs ≡ c.body_size (slice_index_or f 0 []) →
       take (length (c.body f w h)) bs ≡ c.body f w h →
       (c.body_fault f bs ≡ None) × (c.body_market f bs ≡ w) × (c.body_heard f bs ≡ h % 18446744073709551616)
   -- a message that has bytes is a row of whole blocks and is read back, whatever lies behind it; one that has none is refused by every market
-  pub content_whole : (f : Disc) (m : Message) → fine f ≡ true → c.has_bytes f m ≡ true → All (λ (b : List ℕ). is_block b ≡ true) (c.content f m)
+  pub content_whole : (f : Disc) (m : Message) → fine f ≡ true → c.has_bytes f m ≡ true → AllByRecursion (λ (b : List ℕ). is_block b ≡ true) (c.content f m)
   pub content_back :
       (f : Disc) (m : Message) (bs : Disc) → fine f ≡ true → c.has_bytes f m ≡ true →
       take (length (c.content f m)) bs ≡ c.content f m → c.reads f bs ≡ Some (m, length (c.content f m))

@@ -2,7 +2,7 @@
 use Rattle.std.proofs.Common.{◌≡◌, ℕ, ◌<◌, ◌≤◌, Bool, true, false, List, length, ℤ, pos, negsuc, refl, arith}
 use Rattle.std.proofs.ByRecursion.{All-get_or}
 use Rattle.std.proofs.lemmas.Int.{ints}
-use Rattle.std.specs.List.{AllByRecursion as All}
+use Rattle.std.specs.List.{AllByRecursion}
 use Rattle.venue.specs.Invariant.{Inv, Wide}
 use Rattle.venue.specs.Ranges.{Ranged, ItemRange}
 use Rattle.venue.specs.Sizes.{Sized, Small}
@@ -19,7 +19,7 @@ abs_within : (h : ℤ) (n : ℕ) → abs h ≤ n → Within n h
 abs_within (pos m) n l = let e = abs_is (pos m) in (omega (arith, ints), omega (arith, ints))
 abs_within (negsuc m) n l = let e = abs_is (negsuc m) in (omega (arith, ints), omega (arith, ints))
 
-pub ranged_roomy : (w : World) → All (Wide (length w.items)) w.accounts → Ranged w → Roomy 1125899906842624 2147483648 w
+pub ranged_roomy : (w : World) → AllByRecursion (Wide (length w.items)) w.accounts → Ranged w → Roomy 1125899906842624 2147483648 w
 unfolding account item
 ranged_roomy w v r =
     record {

@@ -1,6 +1,6 @@
 -- Every message is answered once, and a refusal changes nothing.
 use Rattle.std.proofs.Common.{◌≡◌, ℕ, zero, suc, Bool, true, eqb, leb, List, [], ◌∷◌, length, refl, inl, inr}
-use Rattle.std.specs.List.{AllByRecursion as All}
+use Rattle.std.specs.List.{AllByRecursion}
 use Rattle.std.proofs.ByRecursion.{All-append}
 use Rattle.venue.proofs.Picks.{by_pick}
 use Rattle.venue.specs.Refusal.{Answered, AnsweredOnce, RefusedChangesNothing, of_trade}
@@ -9,7 +9,7 @@ use Rattle.venue.specs.World.{Limits, Message, Order, Report, World, account, be
 use Rattle.venue.specs.World.{matched, new_order, no, opposite, pay_in, pay_out, pick, place, says, says_it, tear, tear_all, tear_items}
 
 abbrev OnlyTrades : World × List Report → Type 0
-OnlyTrades y = All (λ (r : Report). of_trade r ≡ true) y.1
+OnlyTrades y = AllByRecursion (λ (r : Report). of_trade r ≡ true) y.1
 
 trades_only : (f : ℕ) (w : World) (o : Order) → OnlyTrades (matched f w o)
 unfolding matched
@@ -45,7 +45,7 @@ Fair w y = Answered y.1 × (y.1 ≡ no ∷ [] → y.0 ≡ w)
 refused : (w : World) → Fair w (w, no ∷ [])
 refused w = (inl refl, λ e. refl)
 
-was_done : (w v : World) (n : ℕ) (rs : List Report) → All (λ (r : Report). of_trade r ≡ true) rs → Fair w (v, done n ∷ rs)
+was_done : (w v : World) (n : ℕ) (rs : List Report) → AllByRecursion (λ (r : Report). of_trade r ≡ true) rs → Fair w (v, done n ∷ rs)
 was_done w v n rs f = (inr (n, rs, refl, f), λ e. cc)
 
 one_or_other : (w v : World) (n : ℕ) (b : Bool) → Fair w (pick b (v, done n ∷ []) (w, no ∷ []))

@@ -1,6 +1,6 @@
 -- One turn: a trade of the order being placed with a standing one, and how the turns end.
 use Rattle.std.proofs.Common.{◌≡◌, ℕ, ◌<◌, ◌≤◌, Bool, true, List, [], ◌∷◌, ◌++◌, length, get_or, sym, refl, ap, ◌∙◌, subst, arith}
-use Rattle.std.specs.List.{AllByRecursion as All}
+use Rattle.std.specs.List.{AllByRecursion}
 use Rattle.std.proofs.ByRecursion.{All-get_or}
 use Rattle.venue.proofs.Covering.{paid_cover}
 use Rattle.venue.proofs.Crossing.{calm_taken}
@@ -15,11 +15,11 @@ use Rattle.venue.specs.Turn.{Turn}
 use Rattle.venue.specs.World.{Item, Limits, Order, World, account, gets, is_buy, less_left, meets, need, no_order, taken, traded, with_account}
 use Rattle.venue.specs.World.{with_orders}
 
-pub left_taken : (j x : ℕ) (os : List Order) → All Left os → All Left (taken j x os)
+pub left_taken : (j x : ℕ) (os : List Order) → AllByRecursion Left os → AllByRecursion Left (taken j x os)
 unfolding less_left
 left_taken j x os f = all_taken Left (λ o y h l. (omega arith, omega (arith, h.1))) j x os f
 
-placed_taken : (n : ℕ) (is : List Item) (j x : ℕ) (os : List Order) → All (Placed n is) os → All (Placed n is) (taken j x os)
+placed_taken : (n : ℕ) (is : List Item) (j x : ℕ) (os : List Order) → AllByRecursion (Placed n is) os → AllByRecursion (Placed n is) (taken j x os)
 unfolding less_left
 placed_taken n is j x os f = all_taken (Placed n is) (λ o y h l. h) j x os f
 
@@ -80,7 +80,7 @@ module _ (z : Limits) (w : World) (o : Order) (j x : ℕ) (t : Turn z w o) (l : 
       let s = two_swapped w0 o r x b fit in
       record {
         wide = s.wide (length w.items) t.wide;
-        placed = subst (λ (n : ℕ). All (Placed n w.items) (taken j x w.orders)) (sym s.many)
+        placed = subst (λ (n : ℕ). AllByRecursion (Placed n w.items) (taken j x w.orders)) (sym s.many)
             (placed_taken (length w.accounts) w.items j x w.orders t.placed);
         order = subst (λ (n : ℕ). Placed n w.items o) (sym s.many) t.order;
         left = left_taken j x w.orders t.left;

@@ -1,6 +1,6 @@
 -- Which orders meet, and that no two that stand do.
 use Rattle.std.proofs.Common.{◌≡◌, ℕ, suc, ◌<◌, ◌≤◌, true, false, ◌&&◌, ltb, List, [], ◌∷◌, ◌++◌, length, get_or, ap, arith}
-use Rattle.std.specs.List.{AllByRecursion as All}
+use Rattle.std.specs.List.{AllByRecursion}
 use Rattle.std.proofs.lemmas.Bool.Decides.{nat_tests}
 use Rattle.std.proofs.ByRecursion.{All-push, All-weaker}
 use Rattle.venue.proofs.Orders.{all_taken, all_without}
@@ -22,7 +22,7 @@ best_meets o (r ∷ rs) h =
     M b = b < suc (length rs) → meets o (get_or (r ∷ rs) b no_order) ≡ true
 
 -- if it names none, no order meets o
-pub best_none : (o : Order) (os : List Order) → length os ≤ best o os → All (λ (r : Order). meets o r ≡ false) os
+pub best_none : (o : Order) (os : List Order) → length os ≤ best o os → AllByRecursion (λ (r : Order). meets o r ≡ false) os
 unfolding best
 best_none o [] h = tt
 best_none o (r ∷ rs) h =
@@ -32,7 +32,7 @@ best_none o (r ∷ rs) h =
     (λ e l. (e, best_none o rs (omega arith))) h
   where
     M : ℕ → Type 0
-    M b = suc (length rs) ≤ b → (meets o r ≡ false) × All (λ (r : Order). meets o r ≡ false) rs
+    M b = suc (length rs) ≤ b → (meets o r ≡ false) × AllByRecursion (λ (r : Order). meets o r ≡ false) rs
 
 -- what it is for a buyer, and for a seller, to meet an order
 pub meets_buy : (o r : Order) → is_buy o.side ≡ true → meets o r ≡ true →
@@ -62,23 +62,23 @@ self_uncrossed o b s q = let z : ◌≡◌ {A = ℕ} 0 1 = cc in absurd (omega a
 pub calm_taken : (j x : ℕ) (os : List Order) → Calm os → Calm (taken j x os)
 unfolding less_left
 calm_taken j x os f =
-    all_taken (λ (b : Order). All (Uncrossed b) (taken j x os)) (λ o y h l. h) j x os
-    (All-weaker (λ (b : Order). All (Uncrossed b) os) (λ (b : Order). All (Uncrossed b) (taken j x os))
+    all_taken (λ (b : Order). AllByRecursion (Uncrossed b) (taken j x os)) (λ o y h l. h) j x os
+    (All-weaker (λ (b : Order). AllByRecursion (Uncrossed b) os) (λ (b : Order). AllByRecursion (Uncrossed b) (taken j x os))
     (λ b h. all_taken (Uncrossed b) (λ o y q l. q) j x os h) os f)
 
 pub calm_without : (j : ℕ) (os : List Order) → Calm os → Calm (without j os)
 calm_without j os f =
-    all_without (λ (b : Order). All (Uncrossed b) (without j os)) j os
-    (All-weaker (λ (b : Order). All (Uncrossed b) os) (λ (b : Order). All (Uncrossed b) (without j os))
+    all_without (λ (b : Order). AllByRecursion (Uncrossed b) (without j os)) j os
+    (All-weaker (λ (b : Order). AllByRecursion (Uncrossed b) os) (λ (b : Order). AllByRecursion (Uncrossed b) (without j os))
     (λ b h. all_without (Uncrossed b) j os h) os f)
 
 -- one more order, that meets none
-pub calm_push : (o : Order) (os : List Order) → All (λ (r : Order). meets o r ≡ false) os → Calm os → Calm (os ++ o ∷ [])
+pub calm_push : (o : Order) (os : List Order) → AllByRecursion (λ (r : Order). meets o r ≡ false) os → Calm os → Calm (os ++ o ∷ [])
 calm_push o os f c =
-    All-push (λ (b : Order). All (Uncrossed b) (os ++ o ∷ [])) os o (each os f c)
+    All-push (λ (b : Order). AllByRecursion (Uncrossed b) (os ++ o ∷ [])) os o (each os f c)
     (All-push (Uncrossed o) os o (All-weaker (λ (r : Order). meets o r ≡ false) (Uncrossed o) (unmet_buy o) os f) (self_uncrossed o))
   where
-    each : (ps : List Order) → All (λ (r : Order). meets o r ≡ false) ps → All (λ (b : Order). All (Uncrossed b) os) ps →
-        All (λ (b : Order). All (Uncrossed b) (os ++ o ∷ [])) ps
+    each : (ps : List Order) → AllByRecursion (λ (r : Order). meets o r ≡ false) ps → AllByRecursion (λ (b : Order). AllByRecursion (Uncrossed b) os) ps →
+        AllByRecursion (λ (b : Order). AllByRecursion (Uncrossed b) (os ++ o ∷ [])) ps
     each [] f g = tt
     each (p ∷ ps) f g = (All-push (Uncrossed p) os o g.0 (unmet_sell o p f.0), each ps f.1 g.1)

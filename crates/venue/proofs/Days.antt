@@ -1,6 +1,6 @@
 -- The day's end, and its beginning.
 use Rattle.std.proofs.Common.{◌≡◌, ℕ, ◌+◌, ◌<◌, ◌≤◌, true, false, List, [], length, get_or, ℤ, pos, sym, refl, ap, ◌∙◌, subst, arith}
-use Rattle.std.specs.List.{AllByRecursion as All}
+use Rattle.std.specs.List.{AllByRecursion}
 use Rattle.std.proofs.lemmas.Int.{ints}
 use Rattle.std.proofs.ByRecursion.{All-from_get_or}
 use Rattle.std.proofs.lemmas.Bool.{both_ways}
@@ -27,7 +27,7 @@ leads_end_day z w ps bs i r t =
     record {
       inv = record {
         wide =
-            subst (λ (c : ℕ). All (Wide c) (paid w.items ps w.accounts)) (sym m)
+            subst (λ (c : ℕ). AllByRecursion (Wide c) (paid w.items ps w.accounts)) (sym m)
             (wide_paid (length w.items) w.items ps w.accounts i.wide);
         placed = tt;
         left = tt;

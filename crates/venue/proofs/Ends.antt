@@ -1,6 +1,6 @@
 -- What account a's orders in an item lose at both ends of the band.
 use Rattle.std.proofs.Common.{◌≡◌, ℕ, ◌+◌, ◌≤◌, eqb, List, [], ◌∷◌, pos, ◌≤ℤ◌, refl, arith}
-use Rattle.std.specs.List.{AllByRecursion as All}
+use Rattle.std.specs.List.{AllByRecursion}
 use Rattle.std.proofs.lemmas.Int.{ints}
 use Rattle.std.proofs.lemmas.Bool.{eqb-true}
 use Rattle.venue.proofs.Worst.{high, low, order_high, order_high_is, order_low, order_low_is}
@@ -14,7 +14,7 @@ Banded k i o = o.item ≡ k → (i.price ≤ o.price + i.band) × (o.price ≤ i
 
 module _ (a k : ℕ) (i : Item) (y : Course) where
   pub lost_low : (os : List Order) → ((o : Order) → y.much o ≤ o.left) → ((o : Order) → AsGood o.side (y.at o) o.price) →
-      All (Banded k i) os → lost_by a k y (low i.price i.band) os ≤ℤ pos (buys a k i os)
+      AllByRecursion (Banded k i) os → lost_by a k y (low i.price i.band) os ≤ℤ pos (buys a k i os)
   unfolding lost_by buys
   lost_low [] f g b = omega (arith, ints)
   lost_low (o ∷ os) f g b =
@@ -24,7 +24,7 @@ module _ (a k : ℕ) (i : Item) (y : Course) where
       omega (arith, ints)
 
   pub lost_high : (os : List Order) → ((o : Order) → y.much o ≤ o.left) → ((o : Order) → AsGood o.side (y.at o) o.price) →
-      All (Banded k i) os → lost_by a k y (high i.price i.band) os ≤ℤ pos (sells a k i os)
+      AllByRecursion (Banded k i) os → lost_by a k y (high i.price i.band) os ≤ℤ pos (sells a k i os)
   unfolding lost_by sells
   lost_high [] f g b = omega (arith, ints)
   lost_high (o ∷ os) f g b =
@@ -34,7 +34,7 @@ module _ (a k : ℕ) (i : Item) (y : Course) where
       omega (arith, ints)
 
   pub low_is : (os : List Order) → ((o : Order) → o.item ≡ k → y.much o ≡ pick (is_buy o.side) o.left 0) → ((o : Order) → y.at o ≡ o.price) →
-      All (Banded k i) os → lost_by a k y (low i.price i.band) os ≡ pos (buys a k i os)
+      AllByRecursion (Banded k i) os → lost_by a k y (low i.price i.band) os ≡ pos (buys a k i os)
   unfolding lost_by buys
   low_is [] f g b = refl
   low_is (o ∷ os) f g b =
@@ -44,7 +44,7 @@ module _ (a k : ℕ) (i : Item) (y : Course) where
       rw (g o) (omega (arith, ints))
 
   pub high_is : (os : List Order) → ((o : Order) → o.item ≡ k → y.much o ≡ pick (is_buy o.side) 0 o.left) → ((o : Order) → y.at o ≡ o.price) →
-      All (Banded k i) os → lost_by a k y (high i.price i.band) os ≡ pos (sells a k i os)
+      AllByRecursion (Banded k i) os → lost_by a k y (high i.price i.band) os ≡ pos (sells a k i os)
   unfolding lost_by sells
   high_is [] f g b = refl
   high_is (o ∷ os) f g b =

@@ -1,6 +1,6 @@
 -- The day's end: gains and losses cancel out, holdings stay, and the new items are as they should be.
 use Rattle.std.proofs.Common.{◌≡◌, ℕ, zero, suc, ◌<◌, true, List, [], ◌∷◌, length, get_or, ℤ, pos, ◌+ℤ◌, ◌-ℤ◌, ◌*ℤ◌, refl, ap, arith}
-use Rattle.std.specs.List.{AllByRecursion as All}
+use Rattle.std.specs.List.{AllByRecursion}
 use Rattle.std.proofs.lemmas.Int.{ints}
 use Rattle.std.proofs.lemmas.Bool.Decides.{nat_tests}
 use Rattle.venue.proofs.Ints.{dist_r}
@@ -55,7 +55,7 @@ unfolding paid
 many_paid is ps [] = refl
 many_paid is ps (x ∷ xs) = ap suc (many_paid is ps xs)
 
-pub wide_paid : (n : ℕ) (is : List Item) (ps : List ℕ) (xs : List Account) → All (Wide n) xs → All (Wide n) (paid is ps xs)
+pub wide_paid : (n : ℕ) (is : List Item) (ps : List ℕ) (xs : List Account) → AllByRecursion (Wide n) xs → AllByRecursion (Wide n) (paid is ps xs)
 unfolding paid
 wide_paid n is ps [] f = tt
 wide_paid n is ps (x ∷ xs) f = (f.0, wide_paid n is ps xs f.1)

@@ -1,6 +1,6 @@
 -- What a trade moves between two accounts.
 use Rattle.std.proofs.Common.{◌≡◌, ℕ, ◌<◌, Bool, true, false, not, ◌&&◌, eqb, List, length, ℤ, pos, ◌+ℤ◌, ◌-ℤ◌, ◌*ℤ◌, neg_ℤ, refl, ap, ◌∙◌, arith}
-use Rattle.std.specs.List.{AllByRecursion as All}
+use Rattle.std.specs.List.{AllByRecursion}
 use Rattle.std.proofs.lemmas.Int.{ints}
 use Rattle.std.proofs.lemmas.Bool.{eqb-true, eqb-false}
 use Rattle.venue.proofs.Gets.{account_other, account_same, cash_after, held_elsewhere, held_there, many_gets, wide_at, wide_gets}
@@ -41,7 +41,7 @@ swap_second : (y c p q n : ℤ) → y ≡ (c -ℤ n) -ℤ p → n ≡ neg_ℤ q 
 swap_second y c p q n e d = omega (arith, ints)
 
 -- two accounts, with what the one gets taken from the other
-module _ (w : World) (o r : Order) (x : ℕ) (f : All (Wide (length w.items)) w.accounts) (lo : o.account < length w.accounts)
+module _ (w : World) (o r : Order) (x : ℕ) (f : AllByRecursion (Wide (length w.items)) w.accounts) (lo : o.account < length w.accounts)
     (lr : r.account < length w.accounts) (lk : o.item < length w.items) where
   deep : o.item < length (account w o.account).holds
   deep = omega (arith, wide_at (length w.items) w o.account lo f)

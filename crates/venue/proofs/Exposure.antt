@@ -1,7 +1,7 @@
 -- What an account loses in one item: never more than it needs there, and in the worst case just that.
 use Rattle.std.proofs.Common.{◌≡◌, ℕ, ◌≤◌, true, false, ◌&&◌, eqb, List, [], ◌∷◌, ℤ, pos, ◌+ℤ◌, ◌-ℤ◌, ◌*ℤ◌, neg_ℤ, ◌≤ℤ◌, sym, ap, ◌∙◌, arith}
 use lib.Signed.{lt_z}
-use Rattle.std.specs.List.{AllByRecursion as All}
+use Rattle.std.specs.List.{AllByRecursion}
 use Rattle.std.proofs.lemmas.Int.{ints}
 use Rattle.venue.proofs.Ints.{dist_r, neg_r}
 use Rattle.venue.proofs.Picks.{larger_left, larger_right, larger_within}
@@ -68,7 +68,7 @@ module _ (a k : ℕ) (i : Item) (y : Course) where
       plain P B = omega (arith, ints)
 
   pub item_enough : (h : ℤ) (p : ℕ) (os : List Order) → ((o : Order) → y.much o ≤ o.left) → ((o : Order) → AsGood o.side (y.at o) o.price) →
-      All (Banded k i) os → InBand i p → loss h (pos p) os ≤ℤ need_in a k i h os
+      AllByRecursion (Banded k i) os → InBand i p → loss h (pos p) os ≤ℤ need_in a k i h os
   unfolding need_in
   item_enough h p os f g b v =
       let n = no_worse (neg_ℤ h +ℤ rates os) (loss h (pos p) os) _ _ i.price i.band p v.low v.high
@@ -86,7 +86,7 @@ module _ (a k : ℕ) (i : Item) (y : Course) where
 
   -- carried out so as to lose most, at the end where that is more
   pub reached_high : (h : ℤ) (os : List Order) → ((o : Order) → o.item ≡ k → y.much o ≡ pick (is_buy o.side) 0 o.left) →
-      ((o : Order) → y.at o ≡ o.price) → All (Banded k i) os →
+      ((o : Order) → y.at o ≡ o.price) → AllByRecursion (Banded k i) os →
       lt_z ((h *ℤ pos i.band) +ℤ pos (buys a k i os)) (neg_ℤ (h *ℤ pos i.band) +ℤ pos (sells a k i os)) ≡ true →
       loss h (high i.price i.band) os ≡ need_in a k i h os
   unfolding need_in
@@ -95,7 +95,7 @@ module _ (a k : ℕ) (i : Item) (y : Course) where
       ∙ sym (larger_second ((h *ℤ pos i.band) +ℤ pos (buys a k i os)) (neg_ℤ (h *ℤ pos i.band) +ℤ pos (sells a k i os)) t)
 
   pub reached_low : (h : ℤ) (os : List Order) → ((o : Order) → o.item ≡ k → y.much o ≡ pick (is_buy o.side) o.left 0) →
-      ((o : Order) → y.at o ≡ o.price) → All (Banded k i) os →
+      ((o : Order) → y.at o ≡ o.price) → AllByRecursion (Banded k i) os →
       lt_z ((h *ℤ pos i.band) +ℤ pos (buys a k i os)) (neg_ℤ (h *ℤ pos i.band) +ℤ pos (sells a k i os)) ≡ false →
       loss h (low i.price i.band) os ≡ need_in a k i h os
   unfolding need_in

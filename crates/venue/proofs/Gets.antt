@@ -1,6 +1,6 @@
 -- What one account has, and all together have, after it got some of an item.
 use Rattle.std.proofs.Common.{◌≡◌, ℕ, ◌<◌, eqb, ◌≢◌, length, set, ℤ, pos, ◌+ℤ◌, ◌-ℤ◌, ◌*ℤ◌, refl, arith}
-use Rattle.std.specs.List.{AllByRecursion as All}
+use Rattle.std.specs.List.{AllByRecursion}
 use Rattle.std.proofs.lemmas.Int.{ints}
 use Rattle.std.proofs.ByRecursion.{All-get_or, All-set}
 use Rattle.std.proofs.lemmas.Bool.{eqb-true, eqb-false, eq-eqb, ne_eqb}
@@ -61,12 +61,12 @@ pub item_gets : (w : World) (a k : ℕ) (x : ℤ) (p j : ℕ) → item (gets w a
 unfolding gets with_account item
 item_gets w a k x p j = refl
 
-pub wide_at : (n : ℕ) (w : World) (a : ℕ) → a < length w.accounts → All (Wide n) w.accounts → length (account w a).holds ≡ n
+pub wide_at : (n : ℕ) (w : World) (a : ℕ) → a < length w.accounts → AllByRecursion (Wide n) w.accounts → length (account w a).holds ≡ n
 unfolding account
 wide_at n w a h f = All-get_or (Wide n) w.accounts a nobody h f
 
-pub wide_gets : (n : ℕ) (w : World) (a k : ℕ) (x : ℤ) (p : ℕ) → a < length w.accounts → All (Wide n) w.accounts →
-    All (Wide n) (gets w a k x p).accounts
+pub wide_gets : (n : ℕ) (w : World) (a k : ℕ) (x : ℤ) (p : ℕ) → a < length w.accounts → AllByRecursion (Wide n) w.accounts →
+    AllByRecursion (Wide n) (gets w a k x p).accounts
 unfolding gets with_account account
 wide_gets n w a k x p h f =
     All-set (Wide n) w.accounts a _ (simp length-set (All-get_or (Wide n) w.accounts a nobody h f)) f

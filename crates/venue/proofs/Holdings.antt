@@ -1,7 +1,7 @@
 -- Of how many items accounts hold or owe something: each tear-up leaves at least one fewer.
 use Rattle.std.proofs.Common.{◌≡◌, ℕ, zero, suc, ◌+◌, ◌*◌, ◌<◌, ◌≤◌, min, true, List, length, get_or, set, ℤ, pos, negsuc, ◌+ℤ◌, ◌-ℤ◌, ◌*ℤ◌, neg_ℤ, sum_by, sym, refl, subst, arith}
 use borrow.Author.Differences.{up, down}
-use Rattle.std.specs.List.{AllByRecursion as All}
+use Rattle.std.specs.List.{AllByRecursion}
 use Rattle.std.proofs.lemmas.Bool.Decides.{nat_tests}
 use Rattle.std.proofs.lemmas.List.Sums.{sum_by-set}
 use Rattle.std.proofs.ByRecursion.{sum_by_le, All-from_get_or, All-weaker}
@@ -90,7 +90,7 @@ filled_le hs =
     omega arith
 
 -- no more than accounts and items
-pub holdings_le : (n : ℕ) (w : World) → All (Wide n) w.accounts → all_holdings w ≤ length w.accounts * n
+pub holdings_le : (n : ℕ) (w : World) → AllByRecursion (Wide n) w.accounts → all_holdings w ≤ length w.accounts * n
 holdings_le n w f =
     sum_by_le holdings n w.accounts
     (All-weaker (Wide n) (λ (x : Account). holdings x ≤ n) (λ x h. omega (arith, filled_le x.holds)) w.accounts f)

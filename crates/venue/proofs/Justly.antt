@@ -1,6 +1,6 @@
 -- Who is torn up in the morning, and the morning as a whole.
 use Rattle.std.proofs.Common.{◌≡◌, ℕ, zero, suc, ◌+◌, ◌<◌, ◌≤◌, Bool, true, false, ◌≢◌, List, [], ◌∷◌, ◌++◌, length, ℤ, ◌≤ℤ◌, ◌<ℤ◌, refl, subst, inl, inr, arith}
-use Rattle.std.specs.List.{AllByRecursion as All}
+use Rattle.std.specs.List.{AllByRecursion}
 use Rattle.std.proofs.lemmas.Int.{ints}
 use Rattle.std.proofs.ByRecursion.{All-append}
 use Rattle.std.proofs.lemmas.Bool.{both_ways, ne_eqb}
@@ -18,7 +18,7 @@ use Rattle.venue.specs.World.{tear_items}
 
 -- no report says that c is torn up
 abbrev Spared : ℕ → List Report → Type 0
-Spared c rs = All (λ (r : Report). tears_up c r ≡ false) rs
+Spared c rs = AllByRecursion (λ (r : Report). tears_up c r ≡ false) rs
 
 spared_tear : (c f b a k : ℕ) (w : World) → a ≢ c → Spared c (tear f b a k w).1
 unfolding tear tears_up

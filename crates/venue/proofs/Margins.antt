@@ -1,6 +1,6 @@
 -- What an account needs, item by item: never below 0, and how it changes with orders and holdings.
 use Rattle.std.proofs.Common.{◌≡◌, ℕ, zero, suc, ◌+◌, ◌<◌, ◌≤◌, ◌≢◌, List, [], ◌∷◌, ◌++◌, length, get_or, ℤ, pos, ◌+ℤ◌, ◌-ℤ◌, ◌*ℤ◌, neg_ℤ, ◌≤ℤ◌, sym, arith}
-use Rattle.std.specs.List.{AllByRecursion as All}
+use Rattle.std.specs.List.{AllByRecursion}
 use Rattle.std.proofs.lemmas.Int.{ints}
 use Rattle.std.proofs.ByRecursion.{All-from_get_or}
 use Rattle.std.proofs.lemmas.Bool.{ne_eqb}
@@ -30,7 +30,7 @@ unfolding need
 need_0 w a os = need_from_0 a 0 w.items (account w a) os
 
 -- who can lose all that can be lost has no less than nothing
-pub rich_from : (w : World) (os : List Order) → Cover w os → All NotBelow w.accounts
+pub rich_from : (w : World) (os : List Order) → Cover w os → AllByRecursion NotBelow w.accounts
 unfolding account
 rich_from w os v = All-from_get_or NotBelow w.accounts nobody (λ c l. omega (arith, ints, v c l, need_0 w c os))
 

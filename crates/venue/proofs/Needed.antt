@@ -1,7 +1,7 @@
 -- The need is the most that an account can lose: no course of the day costs more, and one costs just that.
 use Rattle.std.proofs.Common.{◌≡◌, ℕ, suc, ◌+◌, ◌-◌, ◌<◌, ◌≤◌, Bool, true, false, List, [], ◌∷◌, length, get_or, ℤ, pos, ◌+ℤ◌, ◌*ℤ◌, neg_ℤ, ◌≤ℤ◌, sym, refl, ap, ◌∙◌, arith}
 use lib.Signed.{lt_z}
-use Rattle.std.specs.List.{AllByRecursion as All}
+use Rattle.std.specs.List.{AllByRecursion}
 use Rattle.std.proofs.lemmas.Int.{ints}
 use Rattle.std.proofs.ByRecursion.{All-weaker}
 use Rattle.venue.proofs.Picks.{by_pick}
@@ -35,7 +35,7 @@ need_total w a os =
     need_is a 0 w.items (account w a) os _
     (λ j m l q. ap (λ (n : ℕ). need_in a n (get_or w.items j no_item) (held (account w a) n) os) (omega arith))
 
-banded : (w : World) (k : ℕ) → All (Placed (length w.accounts) w.items) w.orders → All (Banded k (item w k)) w.orders
+banded : (w : World) (k : ℕ) → AllByRecursion (Placed (length w.accounts) w.items) w.orders → AllByRecursion (Banded k (item w k)) w.orders
 unfolding item
 banded w k f =
     All-weaker (Placed (length w.accounts) w.items) (Banded k (get_or w.items k no_item))
@@ -93,7 +93,7 @@ module _ (w : World) (a : ℕ) where
   unfolding lost_in
   ends_at k p e = rw e
 
-  worst_in : All (Placed (length w.accounts) w.items) w.orders → (k : ℕ) → (item w k).band ≤ (item w k).price →
+  worst_in : AllByRecursion (Placed (length w.accounts) w.items) w.orders → (k : ℕ) → (item w k).band ≤ (item w k).price →
       (b : Bool) → rises k ≡ b → lost_in w a worst k ≡ need_in a k (item w k) (held (account w a) k) w.orders
   unfolding worst rises
   worst_in p k l true e =

@@ -1,6 +1,6 @@
 -- The orders' numbers rise: also after some are taken or gone, and with a new one behind them.
 use Rattle.std.proofs.Common.{ℕ, zero, suc, ◌<◌, ◌≤◌, leb, List, [], ◌∷◌, ◌++◌, arith}
-use Rattle.std.specs.List.{AllByRecursion as All}
+use Rattle.std.specs.List.{AllByRecursion}
 use Rattle.venue.proofs.Picks.{by_pick}
 use Rattle.venue.specs.Invariant.{Rising}
 use Rattle.venue.specs.World.{Order, less_left, taken, without}
@@ -38,6 +38,6 @@ rising_push t [] o r = (r, omega arith)
 rising_push t (p ∷ os) o r = (r.0, rising_push (suc p.number) os o r.1)
 
 -- each is below the end
-pub numbers_below : (t : ℕ) (os : List Order) (n : ℕ) → Rising t os n → All (λ (o : Order). o.number < n) os
+pub numbers_below : (t : ℕ) (os : List Order) (n : ℕ) → Rising t os n → AllByRecursion (λ (o : Order). o.number < n) os
 numbers_below t [] n r = tt
 numbers_below t (o ∷ os) n r = (rising_ends (suc o.number) os n r.1, numbers_below (suc o.number) os n r.1)

@@ -1,20 +1,20 @@
 -- Lists of orders after some of one is taken, or one is gone: what holds of each, how many, and their numbers.
 use Rattle.std.proofs.Common.{◌≡◌, ℕ, zero, suc, ◌<◌, ◌≤◌, leb, List, [], ◌∷◌, length, get_or, refl, ap, arith}
-use Rattle.std.specs.List.{AllByRecursion as All}
+use Rattle.std.specs.List.{AllByRecursion}
 use Rattle.std.proofs.lemmas.Bool.{leb-false}
 use Rattle.venue.proofs.Picks.{by_pick}
 use Rattle.venue.specs.World.{Order, less_left, no_order, taken, without}
 
-pub all_taken : (P : Order → Type 0) → ((o : Order) (x : ℕ) → P o → (x < o.left) → P (less_left o x)) → (j x : ℕ) (os : List Order) → All P os →
-    All P (taken j x os)
+pub all_taken : (P : Order → Type 0) → ((o : Order) (x : ℕ) → P o → (x < o.left) → P (less_left o x)) → (j x : ℕ) (os : List Order) → AllByRecursion P os →
+    AllByRecursion P (taken j x os)
 unfolding taken
 all_taken P f zero x [] a = a
 all_taken P f (suc j) x [] a = a
 all_taken P f zero x (o ∷ os) a =
-    by_pick (All P) (leb o.left x) os (less_left o x ∷ os) (λ e. a.1) (λ e. (f o x a.0 (leb-false o.left x e), a.1))
+    by_pick (AllByRecursion P) (leb o.left x) os (less_left o x ∷ os) (λ e. a.1) (λ e. (f o x a.0 (leb-false o.left x e), a.1))
 all_taken P f (suc j) x (o ∷ os) a = (a.0, all_taken P f j x os a.1)
 
-pub all_without : (P : Order → Type 0) (j : ℕ) (os : List Order) → All P os → All P (without j os)
+pub all_without : (P : Order → Type 0) (j : ℕ) (os : List Order) → AllByRecursion P os → AllByRecursion P (without j os)
 unfolding without
 all_without P zero [] a = a
 all_without P (suc j) [] a = a

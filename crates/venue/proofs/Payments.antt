@@ -1,7 +1,7 @@
 -- Paying in and paying out: one account's money changes, and the market's money with it.
 use Rattle.std.proofs.Common.{◌≡◌, ℕ, ◌+◌, ◌-◌, ◌<◌, ◌≤◌, true, ◌&&◌, ltb, leb, List, length, get_or, set, ℤ, pos, ◌+ℤ◌, ◌-ℤ◌, ◌≤ℤ◌, sym, refl, ◌∙◌, subst, ⊎_elim, arith}
 use lib.Signed.{le_z, ≤ℤ_refl}
-use Rattle.std.specs.List.{AllByRecursion as All}
+use Rattle.std.specs.List.{AllByRecursion}
 use Rattle.std.proofs.lemmas.Int.{ints}
 use Rattle.std.proofs.lemmas.Bool.Decides.{nat_tests}
 use Rattle.std.proofs.ByRecursion.{All-get_or, All-set}
@@ -55,7 +55,7 @@ leads_cash z w a m y i h e p f l =
         wide =
             All-set (Wide (length w.items)) w.accounts a (with_cash w a y)
             (All-get_or (Wide (length w.items)) w.accounts a nobody h i.wide) i.wide;
-        placed = subst (λ (m : ℕ). All (Placed m w.items) w.orders) (sym n) i.placed;
+        placed = subst (λ (m : ℕ). AllByRecursion (Placed m w.items) w.orders) (sym n) i.placed;
         left = i.left;
         numbers = i.numbers;
         cash = omega (arith, ints, cash_set w.accounts a (with_cash w a y) h, i.cash);

@@ -1,6 +1,6 @@
 -- How large a gain or loss at the day's end can be, and every partial sum of it.
 use Rattle.std.proofs.Common.{◌≡◌, ℕ, zero, suc, ◌+◌, ◌*◌, ◌<◌, ◌≤◌, true, List, [], ◌∷◌, length, take, ℤ, pos, negsuc, ◌+ℤ◌, ◌-ℤ◌, ◌*ℤ◌, mul-le-mul_right, mul-le-mul_left, arith}
-use Rattle.std.specs.List.{AllByRecursion as All}
+use Rattle.std.specs.List.{AllByRecursion}
 use Rattle.std.proofs.lemmas.Int.{ints}
 use Rattle.std.proofs.lemmas.Bool.Decides.{nat_tests}
 use Rattle.venue.proofs.Ints.{times_diff, times_diff_neg}
@@ -31,7 +31,7 @@ one_gain_le h p q b m f g c l =
     omega arith
 
 -- the sum over the first j items
-pub gain_front_le : (j k : ℕ) (is : List Item) (ps bs : List ℕ) (x : Account) (m : ℕ) → All ItemRange is → prices_fit is ps bs ≡ true →
+pub gain_front_le : (j k : ℕ) (is : List Item) (ps bs : List ℕ) (x : Account) (m : ℕ) → AllByRecursion ItemRange is → prices_fit is ps bs ≡ true →
     ((i : ℕ) → abs (held x i) ≤ m) → abs (gain k (take j is) (take j ps) x) ≤ j * (m * 1000000)
 unfolding gain prices_fit
 gain_front_le zero k is ps bs x m r e f = omega (arith, abs_pos 0)

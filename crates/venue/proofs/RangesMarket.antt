@@ -1,6 +1,6 @@
 -- The ranges of a market's numbers: of one between two messages, at a turn of an order, and while holdings are torn up.
 use Rattle.std.proofs.Common.{◌≡◌, ℕ, ◌<◌, ◌≤◌, List, [], ◌∷◌, ◌++◌, length, get_or, pos, ◌≤ℤ◌, arith}
-use Rattle.std.specs.List.{AllByRecursion as All}
+use Rattle.std.specs.List.{AllByRecursion}
 use Rattle.std.proofs.lemmas.Int.{ints}
 use Rattle.std.proofs.ByRecursion.{All-get_or, All-from_get_or}
 use Rattle.venue.proofs.Margins.{rich_from}
@@ -18,7 +18,7 @@ use Rattle.venue.specs.Tearing.{Tearing}
 use Rattle.venue.specs.Turn.{Turn}
 use Rattle.venue.specs.World.{Item, Limits, Message, Order, World, abs, account, held, item, no_item, no_order, says}
 
-items_range : (is : List Item) → SoundItems is → All ItemRange is
+items_range : (is : List Item) → SoundItems is → AllByRecursion ItemRange is
 unfolding SoundItems
 items_range is s =
     All-from_get_or ItemRange is no_item (λ k h. let q = s k h in record { band_low = q.0; band_high = q.1; price = q.2 })
@@ -30,14 +30,14 @@ order_range n is o s p l m =
     let q = s o.item p.1 in
     record { account = p.0; item = p.1; price = omega (arith, p.3, q.1, q.2); left = l; number = m }
 
-orders_range : (n : ℕ) (is : List Item) (os : List Order) (t : ℕ) → t ≤ 9223372036854775808 → SoundItems is → All (Placed n is) os → All Left os →
-    Rising 1 os t → All (OrderRange n (length is)) os
+orders_range : (n : ℕ) (is : List Item) (os : List Order) (t : ℕ) → t ≤ 9223372036854775808 → SoundItems is → AllByRecursion (Placed n is) os → AllByRecursion Left os →
+    Rising 1 os t → AllByRecursion (OrderRange n (length is)) os
 orders_range n is os t h s p l r =
     All-from_get_or (OrderRange n (length is)) os no_order
     (λ k g. order_range n is (get_or os k no_order) s (All-get_or (Placed n is) os k no_order g p) (All-get_or Left os k no_order g l).1
     (let m = All-get_or (λ (o : Order). o.number < t) os k no_order g (numbers_below 1 os t r) in omega arith))
 
-cash_in : (w : World) (m a : ℕ) → a < length w.accounts → All NotBelow w.accounts → all_cash w.accounts ≡ pos w.money → w.money ≤ m →
+cash_in : (w : World) (m a : ℕ) → a < length w.accounts → AllByRecursion NotBelow w.accounts → all_cash w.accounts ≡ pos w.money → w.money ≤ m →
     (pos 0 ≤ℤ (account w a).cash) × ((account w a).cash ≤ℤ pos m)
 cash_in w m a h r c l = (cash_at w a h r, omega (arith, ints, cash_within w a h r))
 

@@ -1,6 +1,6 @@
 -- How large a need can be, and every partial sum of it.
 use Rattle.std.proofs.Common.{ℕ, suc, ◌+◌, ◌-◌, ◌*◌, ◌<◌, ◌≤◌, Bool, true, false, not, ◌&&◌, eqb, List, [], ◌∷◌, ◌++◌, length, ℤ, pos, negsuc, ◌+ℤ◌, ◌*ℤ◌, neg_ℤ, ◌≤ℤ◌, mul-le-mul_right, mul-le-mul_left, arith}
-use Rattle.std.specs.List.{AllByRecursion as All}
+use Rattle.std.specs.List.{AllByRecursion}
 use Rattle.std.proofs.lemmas.Int.{ints}
 use Rattle.std.proofs.ByRecursion.{All-push, All-weaker}
 use Rattle.venue.proofs.Margins.{need_0}
@@ -24,7 +24,7 @@ share_le false k b l c h = omega arith
 abbrev pub Priced : Order → Type 0
 Priced o = o.price ≤ 2000000
 
-pub buys_le : (a k : ℕ) (i : Item) (os : List Order) → ItemRange i → All Priced os → buys a k i os ≤ standing a k os * 3000000
+pub buys_le : (a k : ℕ) (i : Item) (os : List Order) → ItemRange i → AllByRecursion Priced os → buys a k i os ≤ standing a k os * 3000000
 unfolding buys standing
 buys_le a k i [] r p = omega arith
 buys_le a k i (o ∷ os) r p =
@@ -54,7 +54,7 @@ band_le (negsuc a) b h = rw (abs_is (negsuc a)) (let m = mul-le-mul_left (suc a)
 larger_le : (H : ℤ) (b s m n : ℕ) → H ≤ℤ pos m → neg_ℤ H ≤ℤ pos m → b ≤ n → s ≤ n → larger (H +ℤ pos b) (neg_ℤ H +ℤ pos s) ≤ℤ pos (m + n)
 larger_le H b s m n f g c d = larger_within _ _ _ (omega (arith, ints)) (omega (arith, ints))
 
-pub need_in_le : (a k : ℕ) (i : Item) (h : ℤ) (os : List Order) (m : ℕ) → ItemRange i → All Priced os → abs h + standing a k os ≤ m →
+pub need_in_le : (a k : ℕ) (i : Item) (h : ℤ) (os : List Order) (m : ℕ) → ItemRange i → AllByRecursion Priced os → abs h + standing a k os ≤ m →
     need_in a k i h os ≤ℤ pos (m * 3000000)
 unfolding need_in
 need_in_le a k i h os m r p l =
@@ -65,7 +65,7 @@ need_in_le a k i h os m r p l =
     omega (arith, ints)
 
 -- the sum over any items
-pub need_from_le : (a k : ℕ) (is : List Item) (x : Account) (os : List Order) (m : ℕ) → All ItemRange is → All Priced os →
+pub need_from_le : (a k : ℕ) (is : List Item) (x : Account) (os : List Order) (m : ℕ) → AllByRecursion ItemRange is → AllByRecursion Priced os →
     ((j : ℕ) → abs (held x j) + standing a j os ≤ m) → need_from a k is x os ≤ℤ pos (length is * (m * 3000000))
 unfolding need_from
 need_from_le a k [] x os m r p f = omega (arith, ints)
@@ -75,7 +75,7 @@ need_from_le a k (i ∷ is) x os m r p f =
     omega (arith, ints)
 
 -- 256 items, and 2 ^ 31 of each
-pub need_range : (w : World) (a : ℕ) (os : List Order) → length w.items ≤ 256 → All ItemRange w.items → All Priced os →
+pub need_range : (w : World) (a : ℕ) (os : List Order) → length w.items ≤ 256 → AllByRecursion ItemRange w.items → AllByRecursion Priced os →
     ((k : ℕ) → abs (held (account w a) k) + standing a k os ≤ 2147483648) →
     (pos 0 ≤ℤ need w a os) × (need w a os ≤ℤ pos 1649267441664000000)
 unfolding need
@@ -84,7 +84,7 @@ need_range w a os n r p f =
     let q = mul-le-mul_right 6442450944000000 n in
     (need_0 w a os, omega (arith, ints))
 
-priced : (n m : ℕ) (os : List Order) → All (OrderRange n m) os → All Priced os
+priced : (n m : ℕ) (os : List Order) → AllByRecursion (OrderRange n m) os → AllByRecursion Priced os
 priced n m os f = All-weaker (OrderRange n m) Priced (λ o r. r.price) os f
 
 -- what an account needs between two messages

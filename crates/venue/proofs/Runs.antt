@@ -1,6 +1,6 @@
 -- First markets, rows of messages, and the promises.
 use Rattle.std.proofs.Common.{◌≡◌, ℕ, zero, suc, ◌+◌, ◌<◌, ◌≤◌, false, List, [], ◌∷◌, length, get_or, replicate, ℤ, pos, ◌+ℤ◌, sym, refl, ap, ◌∙◌, subst, arith}
-use Rattle.std.specs.List.{AllByRecursion as All}
+use Rattle.std.specs.List.{AllByRecursion}
 use Rattle.std.proofs.lemmas.Int.{ints}
 use Rattle.std.proofs.ByRecursion.{All-get_or}
 use Rattle.std.proofs.lemmas.Bool.{both_ways}
@@ -12,7 +12,7 @@ use Rattle.venue.specs.Invariant.{Inv, Left, NotBelow, Uncrossed, Wide}
 use Rattle.venue.specs.Promise.{Covered, Kept, NotCrossed, SomethingLeft, SoundItems, all_cash, all_held}
 use Rattle.venue.specs.World.{Account, Item, Limits, Message, Order, World, abs, account, first, held, no_order, nobody, run, says, standing}
 
-all_same : (P : Account → Type 0) (n : ℕ) (x : Account) → P x → All P (replicate n x)
+all_same : (P : Account → Type 0) (n : ℕ) (x : Account) → P x → AllByRecursion P (replicate n x)
 all_same P zero x p = tt
 all_same P (suc n) x p = (p, all_same P n x p)
 
@@ -89,7 +89,7 @@ unfolding NotCrossed
 is_not_crossed z is n j k ms s hj hk b c e =
     let os = (run z (first is n) ms).orders in
     let i = inv_run z (first is n) ms (inv_first z is n s) in
-    All-get_or (Uncrossed (get_or os j no_order)) os k no_order hk (All-get_or (λ (b : Order). All (Uncrossed b) os) os j no_order hj i.calm) b c e
+    All-get_or (Uncrossed (get_or os j no_order)) os k no_order hk (All-get_or (λ (b : Order). AllByRecursion (Uncrossed b) os) os j no_order hj i.calm) b c e
 
 pub is_something_left : SomethingLeft
 unfolding SomethingLeft

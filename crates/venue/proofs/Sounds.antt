@@ -1,6 +1,6 @@
 -- The test of a market passes exactly the markets that are as they should be.
 use Rattle.std.proofs.Common.{◌≡◌, ℕ, ◌≤◌, true, false, List, [], length, pos}
-use Rattle.std.specs.List.{AllByRecursion as All}
+use Rattle.std.specs.List.{AllByRecursion}
 use Rattle.venue.proofs.Messages.{leads_says}
 use Rattle.venue.proofs.Runs.{inv_first, inv_run}
 use Rattle.venue.proofs.Tested.{of_cash, of_cleared, of_covered, of_debts, of_held, of_holds_each, of_in_place, of_items, of_not_crossed, of_rising}
@@ -19,13 +19,13 @@ use Rattle.venue.specs.World.{Item, Limits, Message, Side, World, counted, first
 -- the facts in the test's order
 abbrev Parts : Limits → World → Type 0
 Parts z w =
-    (((((((((((All (Wide (length w.items)) w.accounts
-    × All (Placed (length w.accounts) w.items) w.orders)
-    × All Left w.orders)
+    (((((((((((AllByRecursion (Wide (length w.items)) w.accounts
+    × AllByRecursion (Placed (length w.accounts) w.items) w.orders)
+    × AllByRecursion Left w.orders)
     × Rising 1 w.orders w.next)
     × (all_cash w.accounts ≡ pos w.money))
     × ((k : ℕ) → all_held k w.accounts ≡ pos 0))
-    × All NotBelow w.accounts)
+    × AllByRecursion NotBelow w.accounts)
     × (w.trading ≡ true → Cover w w.orders))
     × (w.trading ≡ false → w.orders ≡ []))
     × Calm w.orders)

@@ -1,6 +1,6 @@
 -- Some of an item goes from one account to another, or to the same: what stays.
 use Rattle.std.proofs.Common.{◌≡◌, ℕ, ◌<◌, Bool, true, false, eqb, length, ℤ, pos, ◌+ℤ◌, ◌-ℤ◌, ◌*ℤ◌, sym, refl, ap, ◌∙◌, arith}
-use Rattle.std.specs.List.{AllByRecursion as All}
+use Rattle.std.specs.List.{AllByRecursion}
 use Rattle.std.proofs.lemmas.Int.{ints}
 use Rattle.venue.proofs.Gets.{cash_gets, held_gets, item_gets, many_gets, wide_at, wide_gets}
 use Rattle.venue.proofs.Ints.{dist_r}
@@ -10,7 +10,7 @@ use Rattle.venue.specs.World.{World, gets, item, pick}
 
 pub record Swapped (w v : World) : Type 0 where
   pub many : length v.accounts ≡ length w.accounts
-  pub wide : (n : ℕ) → All (Wide n) w.accounts → All (Wide n) v.accounts
+  pub wide : (n : ℕ) → AllByRecursion (Wide n) w.accounts → AllByRecursion (Wide n) v.accounts
   pub cash : all_cash v.accounts ≡ all_cash w.accounts
   pub held : (k : ℕ) → all_held k v.accounts ≡ all_held k w.accounts
 
@@ -20,7 +20,7 @@ cancels false x y e = refl
 
 -- a gets x and b gets y, for p each, and x + y is 0
 pub swapped : (n : ℕ) (w : World) (a b k : ℕ) (x y : ℤ) (p : ℕ) → x +ℤ y ≡ pos 0 → a < length w.accounts → b < length w.accounts →
-    k < n → All (Wide n) w.accounts → Swapped w (gets (gets w a k x p) b k y p)
+    k < n → AllByRecursion (Wide n) w.accounts → Swapped w (gets (gets w a k x p) b k y p)
 swapped n w a b k x y p e la hb hk f =
     record {
       many = many_gets w1 b k y p ∙ many_gets w a k x p;

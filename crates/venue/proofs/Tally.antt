@@ -1,6 +1,6 @@
 -- How trades and tear-ups change what an account holds, by their reports.
 use Rattle.std.proofs.Common.{◌≡◌, ℕ, suc, ◌<◌, ◌≤◌, ◌&&◌, eqb, ◌≢◌, List, [], ◌∷◌, length, get_or, ℤ, pos, ◌+ℤ◌, ◌-ℤ◌, sym, refl, subst, ⊎_elim, arith}
-use Rattle.std.specs.List.{AllByRecursion as All}
+use Rattle.std.specs.List.{AllByRecursion}
 use Rattle.std.proofs.lemmas.Int.{ints}
 use Rattle.std.proofs.ByRecursion.{All-get_or, All-push, All-weaker}
 use Rattle.std.proofs.lemmas.List.{get_or-set_same, get_or-set_other}
@@ -19,7 +19,7 @@ use Rattle.venue.specs.World.{new_order, no_order, nobody, pick, place, with_acc
 
 -- each order that stands is its owner's
 abbrev pub Owned : (ℕ → ℕ) → List Order → Type 0
-Owned own os = All (λ (o : Order). own o.number ≡ o.account) os
+Owned own os = AllByRecursion (λ (o : Order). own o.number ≡ o.account) os
 
 -- by the steps of a morning
 pub tally_steps : (own : ℕ → ℕ) (w v : World) (rs : List Report) (c k : ℕ) → Steps w rs v →
@@ -55,12 +55,12 @@ tally_carried own m w u o rs c k e d f (trades j x t s) =
     )
 
 -- a new number changes nothing for others
-pub owned_other : (own : ℕ → ℕ) (a n : ℕ) (os : List Order) → All (λ (o : Order). o.number ≢ n) os → Owned own os →
+pub owned_other : (own : ℕ → ℕ) (a n : ℕ) (os : List Order) → AllByRecursion (λ (o : Order). o.number ≢ n) os → Owned own os →
     Owned (λ (i : ℕ). pick (eqb i n) a (own i)) os
 owned_other own a n [] f g = tt
 owned_other own a n (o ∷ os) f g = (rw (ne_eqb o.number n f.0) g.0, owned_other own a n os f.1 g.1)
 
-pub numbers_from : (t : ℕ) (os : List Order) (n : ℕ) → Rising t os n → All (λ (o : Order). t ≤ o.number) os
+pub numbers_from : (t : ℕ) (os : List Order) (n : ℕ) → Rising t os n → AllByRecursion (λ (o : Order). t ≤ o.number) os
 numbers_from t [] n r = tt
 numbers_from t (o ∷ os) n r = (
   r.0,

@@ -1,6 +1,6 @@
 -- Tearing up an account: who holds one way while nobody holds the other way holds nothing, since all together hold nothing.
 use Rattle.std.proofs.Common.{◌≡◌, ℕ, zero, suc, ◌+◌, ◌<◌, ◌≤◌, true, ◌≢◌, List, length, get_or, ℤ, pos, negsuc, neg_ℤ, ◌≤ℤ◌, sym, refl, ap, subst, arith}
-use Rattle.std.specs.List.{AllByRecursion as All}
+use Rattle.std.specs.List.{AllByRecursion}
 use Rattle.std.proofs.lemmas.Int.{ints}
 use Rattle.std.proofs.ByRecursion.{All-from_get_or}
 use Rattle.venue.proofs.Opposites.{NotAgainst, near_against, not_against, opposite_self, tear_by}
@@ -108,11 +108,11 @@ holds_nothing k xs a h e f = by_sign (held (get_or xs a nobody) k) refl
     by_sign : (z : ℤ) → held (get_or xs a nobody) k ≡ z → held (get_or xs a nobody) k ≡ pos 0
     by_sign (pos zero) q = q
     by_sign (pos (suc i)) q =
-        let g : All (λ (x : Account). pos 0 ≤ℤ held x k) xs =
+        let g : AllByRecursion (λ (x : Account). pos 0 ≤ℤ held x k) xs =
         All-from_get_or (λ (x : Account). pos 0 ≤ℤ held x k) xs nobody (λ c l. let t = (f c l).0 (omega (arith, ints)) in omega (arith, ints, t)) in
         let w = held_share k xs a h g in absurd (omega (arith, ints))
     by_sign (negsuc i) q =
-        let g : All (λ (x : Account). pos 0 ≤ℤ neg_ℤ (held x k)) xs =
+        let g : AllByRecursion (λ (x : Account). pos 0 ≤ℤ neg_ℤ (held x k)) xs =
         All-from_get_or (λ (x : Account). pos 0 ≤ℤ neg_ℤ (held x k)) xs nobody
         (λ c l. let t = (f c l).1 (omega (arith, ints)) in omega (arith, ints, t)) in
         let w = owed_share k xs a h g in absurd (omega (arith, ints))

@@ -1,6 +1,6 @@
 -- One step of tearing up, in the market: money stays, holdings come nearer to 0, and the market is as it should be.
 use Rattle.std.proofs.Common.{◌≡◌, ℕ, ◌+◌, ◌<◌, ◌≤◌, false, ◌≢◌, List, [], length, ℤ, pos, ◌+ℤ◌, neg_ℤ, ◌≤ℤ◌, sym, refl, ap, ◌∙◌, subst, ⊎_elim, arith}
-use Rattle.std.specs.List.{AllByRecursion as All}
+use Rattle.std.specs.List.{AllByRecursion}
 use Rattle.std.proofs.lemmas.Int.{ints}
 use Rattle.std.proofs.ByRecursion.{All-from_get_or}
 use Rattle.std.proofs.lemmas.Bool.{both_ways, cases_eq}
@@ -76,9 +76,9 @@ tearing_from z w v g t s =
     let n : v.orders ≡ [] = t.orders ∙ i.empty g.still in
     record {
       inv = record {
-        wide = subst (λ (m : ℕ). All (Wide m) v.accounts) (sym (ap length t.items)) (s.wide (length w.items) i.wide);
-        placed = subst (All (Placed (length v.accounts) v.items)) (sym n) tt;
-        left = subst (All Left) (sym n) tt;
+        wide = subst (λ (m : ℕ). AllByRecursion (Wide m) v.accounts) (sym (ap length t.items)) (s.wide (length w.items) i.wide);
+        placed = subst (AllByRecursion (Placed (length v.accounts) v.items)) (sym n) tt;
+        left = subst (AllByRecursion Left) (sym n) tt;
         numbers =
             subst (λ (os : List Order). Rising 1 os v.next) (sym n)
             (omega (arith, t.next, rising_ends 1 w.orders w.next i.numbers));

@@ -1,7 +1,7 @@
 -- Each rule of the test of a market, and the fact that it decides.
 use Rattle.std.proofs.Common.{◌≡◌, ℕ, suc, ◌+◌, ◌<◌, ◌≤◌, true, false, not, ◌&&◌, ◌||◌, eqb, ltb, List, [], ◌∷◌, length, get_or, ℤ, pos, ◌+ℤ◌, ◌≤ℤ◌, refl, ap, ◌∙◌, ⊎_elim, arith}
 use lib.Signed.{le_z}
-use Rattle.std.specs.List.{AllByRecursion as All}
+use Rattle.std.specs.List.{AllByRecursion}
 use Rattle.std.proofs.ByRecursion.{All-get_or, All-from_get_or}
 use Rattle.std.proofs.lemmas.Bool.{eqb-true, eq-eqb, cases_lt}
 use Rattle.std.proofs.lemmas.List.{get_or_past, nil_from_length}
@@ -12,7 +12,7 @@ use Rattle.venue.specs.Sound.{all_covered, apart, cash_adds_up, cleared, every, 
 use Rattle.venue.specs.Sound.{rising, same, some_left}
 use Rattle.venue.specs.World.{Account, Item, Order, Side, World, account, buy, covered, held, is_buy, item, need, no_item, sell}
 
-pub of_holds_each : (w : World) → Tests (holds_each w) (All (Wide (length w.items)) w.accounts)
+pub of_holds_each : (w : World) → Tests (holds_each w) (AllByRecursion (Wide (length w.items)) w.accounts)
 unfolding holds_each
 of_holds_each w =
     of_every (λ (x : Account). eqb (length x.holds) (length w.items)) (Wide (length w.items))
@@ -40,14 +40,14 @@ unfolding cash_adds_up
 of_cash w = of_same (all_cash w.accounts) (pos w.money)
 
 -- past the items nobody holds anything
-held_past : (n k : ℕ) (xs : List Account) → All (Wide n) xs → n ≤ k → all_held k xs ≡ pos 0
+held_past : (n k : ℕ) (xs : List Account) → AllByRecursion (Wide n) xs → n ≤ k → all_held k xs ≡ pos 0
 unfolding all_held held
 held_past n k [] a h = refl
 held_past n k (x ∷ xs) a h =
     let l = a.0 in
     ap (λ (i : ℤ). i +ℤ all_held k xs) (get_or_past x.holds k (pos 0) (omega arith)) ∙ ap (λ (i : ℤ). pos 0 +ℤ i) (held_past n k xs a.1 h)
 
-pub of_held : (w : World) → All (Wide (length w.items)) w.accounts → Tests (holds_cancel w) ((k : ℕ) → all_held k w.accounts ≡ pos 0)
+pub of_held : (w : World) → AllByRecursion (Wide (length w.items)) w.accounts → Tests (holds_cancel w) ((k : ℕ) → all_held k w.accounts ≡ pos 0)
 unfolding holds_cancel
 of_held w f =
     of_same_fact
@@ -58,7 +58,7 @@ of_held w f =
     (λ k. of_same (all_held k w.accounts) (pos 0))
     (length w.items))
 
-pub of_debts : (w : World) → Tests (no_debts w) (All NotBelow w.accounts)
+pub of_debts : (w : World) → Tests (no_debts w) (AllByRecursion NotBelow w.accounts)
 unfolding no_debts
 of_debts w = of_every (λ (x : Account). le_z (pos 0) x.cash) NotBelow (λ x. of_int_le (pos 0) x.cash) w.accounts
 
@@ -88,7 +88,7 @@ of_apart b s = of_sides b.side s.side b.item s.item b.price s.price
 pub of_not_crossed : (w : World) → Tests (not_crossed w) (Calm w.orders)
 unfolding not_crossed
 of_not_crossed w =
-    of_every (λ (b : Order). every (apart b) w.orders) (λ (b : Order). All (Uncrossed b) w.orders)
+    of_every (λ (b : Order). every (apart b) w.orders) (λ (b : Order). AllByRecursion (Uncrossed b) w.orders)
     (λ b. of_every (apart b) (Uncrossed b) (of_apart b) w.orders) w.orders
 
 of_item : (i : Item) → Tests (item_fits i) ((1 ≤ i.band) × (i.band ≤ i.price) × (i.price ≤ 1000000))

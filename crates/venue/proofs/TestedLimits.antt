@@ -1,6 +1,6 @@
 -- The rules of the test that go by the limits. They ask of items that there are; past them nobody holds anything and no order stands.
 use Rattle.std.proofs.Common.{◌≡◌, ℕ, ◌+◌, ◌<◌, ◌≤◌, Bool, leb, List, [], ◌∷◌, length, pos, refl, ap, ◌∙◌, ⊎_elim, arith}
-use Rattle.std.specs.List.{AllByRecursion as All}
+use Rattle.std.specs.List.{AllByRecursion}
 use Rattle.std.proofs.ByRecursion.{All-weaker}
 use Rattle.std.proofs.lemmas.Bool.{cases_lt}
 use Rattle.std.proofs.lemmas.List.{get_or_past}
@@ -12,7 +12,7 @@ use Rattle.venue.specs.Invariant.{Placed, Wide, Within}
 use Rattle.venue.specs.Sound.{below, holds_fit, limits_hold}
 use Rattle.venue.specs.World.{Limits, Order, World, abs, account, held, standing}
 
-standing_past : (a n k : ℕ) (os : List Order) → All (λ (o : Order). o.item < n) os → n ≤ k → standing a k os ≡ 0
+standing_past : (a n k : ℕ) (os : List Order) → AllByRecursion (λ (o : Order). o.item < n) os → n ≤ k → standing a k os ≡ 0
 unfolding standing
 standing_past a n k [] p h = refl
 standing_past a n k (o ∷ os) p h =
@@ -20,11 +20,11 @@ standing_past a n k (o ∷ os) p h =
     let m = standing_past a n k os p.1 h in
     omega (arith, other_item a k o (λ q. omega (arith, q)))
 
-held_past : (w : World) (n a k : ℕ) → All (Wide n) w.accounts → a < length w.accounts → n ≤ k → abs (held (account w a) k) ≡ 0
+held_past : (w : World) (n a k : ℕ) → AllByRecursion (Wide n) w.accounts → a < length w.accounts → n ≤ k → abs (held (account w a) k) ≡ 0
 unfolding held
 held_past w n a k p h g = let l = wide_at n w a h p in ap abs (get_or_past (account w a).holds k (pos 0) (omega arith)) ∙ abs_pos 0
 
-pub of_holds : (z : Limits) (w : World) → All (Wide (length w.items)) w.accounts → All (Placed (length w.accounts) w.items) w.orders →
+pub of_holds : (z : Limits) (w : World) → AllByRecursion (Wide (length w.items)) w.accounts → AllByRecursion (Placed (length w.accounts) w.items) w.orders →
     Tests (holds_fit z w) (Within z.holding w w.orders)
 unfolding holds_fit
 of_holds z w f g =
@@ -44,7 +44,7 @@ of_holds z w f g =
     Fits : ℕ → ℕ → Type 0
     Fits a k = abs (held (account w a) k) + standing a k w.orders ≤ z.holding
 
-    few : All (λ (o : Order). o.item < length w.items) w.orders
+    few : AllByRecursion (λ (o : Order). o.item < length w.items) w.orders
     few = All-weaker (Placed (length w.accounts) w.items) (λ (o : Order). o.item < length w.items) (λ o h. h.1) w.orders g
 
 pub of_limits : (z : Limits) (w : World) →

@@ -1,7 +1,7 @@
 -- A test and the fact that it decides; tests put together.
 use Rattle.std.proofs.Common.{◌≡◌, ℕ, zero, suc, ◌<◌, ◌≤◌, Bool, true, false, not, ◌&&◌, ◌||◌, T, eqb, ltb, leb, List, [], ◌∷◌, ℤ, ◌≤ℤ◌, refl, arith}
 use lib.Signed.{le_z}
-use Rattle.std.specs.List.{AllByRecursion as All}
+use Rattle.std.specs.List.{AllByRecursion}
 use Rattle.std.proofs.lemmas.Int.{ints}
 use Rattle.std.proofs.lemmas.Bool.{both_ways, ltb-true, leb-true, eqb-true, lt-ltb, le-leb, eq-eqb, and_parts, and_from}
 use Rattle.venue.proofs.Picks.{one_more}
@@ -31,17 +31,17 @@ both_then {a} {b} s t =
     }
 
 module _ {A : Type 0} (f : A → Bool) (P : A → Type 0) (t : (x : A) → Tests (f x) (P x)) where
-  every_yes : (xs : List A) → every f xs ≡ true → All P xs
+  every_yes : (xs : List A) → every f xs ≡ true → AllByRecursion P xs
   unfolding every
   every_yes [] e = tt
   every_yes (x ∷ xs) e = let p = and_parts (f x) (every f xs) e in ((t x).yes p.0, every_yes xs p.1)
 
-  every_back : (xs : List A) → All P xs → every f xs ≡ true
+  every_back : (xs : List A) → AllByRecursion P xs → every f xs ≡ true
   unfolding every
   every_back [] a = refl
   every_back (x ∷ xs) a = and_from (f x) (every f xs) ((t x).back a.0) (every_back xs a.1)
 
-  pub of_every : (xs : List A) → Tests (every f xs) (All P xs)
+  pub of_every : (xs : List A) → Tests (every f xs) (AllByRecursion P xs)
   of_every xs = record { yes = every_yes xs; back = every_back xs }
 
 module _ (f : ℕ → Bool) (P : ℕ → Type 0) (t : (j : ℕ) → Tests (f j) (P j)) where

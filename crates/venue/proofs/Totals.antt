@@ -1,6 +1,6 @@
 -- Sums over the accounts: after one account is replaced, and each account's share. Cash, and what is held of an item, are such sums.
 use Rattle.std.proofs.Common.{◌≡◌, ℕ, zero, suc, ◌<◌, List, [], ◌∷◌, length, get_or, set, ℤ, pos, ◌+ℤ◌, neg_ℤ, ◌≤ℤ◌, refl, ap, arith}
-use Rattle.std.specs.List.{AllByRecursion as All}
+use Rattle.std.specs.List.{AllByRecursion}
 use Rattle.std.proofs.lemmas.Int.{ints}
 use Rattle.std.proofs.ByRecursion.{All-get_or}
 use Rattle.venue.specs.Invariant.{NotBelow}
@@ -19,12 +19,12 @@ total_set f (y ∷ ys) zero x h = omega (arith, ints)
 total_set f (y ∷ ys) (suc a) x h = let e = total_set f ys a x (omega arith) in omega (arith, ints)
 
 -- while none is below 0, none is more than all together
-total_0 : (f : Account → ℤ) (xs : List Account) → All (λ (x : Account). pos 0 ≤ℤ f x) xs → pos 0 ≤ℤ total f xs
+total_0 : (f : Account → ℤ) (xs : List Account) → AllByRecursion (λ (x : Account). pos 0 ≤ℤ f x) xs → pos 0 ≤ℤ total f xs
 unfolding total
 total_0 f [] g = omega (arith, ints)
 total_0 f (x ∷ xs) g = omega (arith, ints, g.0, total_0 f xs g.1)
 
-share : (f : Account → ℤ) (xs : List Account) (a : ℕ) → a < length xs → All (λ (x : Account). pos 0 ≤ℤ f x) xs → f (get_or xs a nobody) ≤ℤ total f xs
+share : (f : Account → ℤ) (xs : List Account) (a : ℕ) → a < length xs → AllByRecursion (λ (x : Account). pos 0 ≤ℤ f x) xs → f (get_or xs a nobody) ≤ℤ total f xs
 unfolding total
 share f [] a h g = absurd (omega arith)
 share f (x ∷ xs) zero h g = omega (arith, ints, g.0, total_0 f xs g.1)
@@ -40,12 +40,12 @@ pub cash_set : (xs : List Account) (a : ℕ) (x : Account) → a < length xs →
     all_cash (set xs a x) +ℤ (get_or xs a nobody).cash ≡ all_cash xs +ℤ x.cash
 cash_set xs a x h = rw (cash_is (set xs a x), cash_is xs) (total_set (λ (x : Account). x.cash) xs a x h)
 
-pub cash_within : (w : World) (a : ℕ) → a < length w.accounts → All NotBelow w.accounts →
+pub cash_within : (w : World) (a : ℕ) → a < length w.accounts → AllByRecursion NotBelow w.accounts →
     (account w a).cash ≤ℤ all_cash w.accounts
 unfolding account
 cash_within w a h f = rw cash_is (share (λ (x : Account). x.cash) w.accounts a h f)
 
-pub cash_at : (w : World) (a : ℕ) → a < length w.accounts → All NotBelow w.accounts → pos 0 ≤ℤ (account w a).cash
+pub cash_at : (w : World) (a : ℕ) → a < length w.accounts → AllByRecursion NotBelow w.accounts → pos 0 ≤ℤ (account w a).cash
 unfolding account
 cash_at w a h f = All-get_or NotBelow w.accounts a nobody h f
 
@@ -64,10 +64,10 @@ pub held_set : (k : ℕ) (xs : List Account) (a : ℕ) (x : Account) → a < len
     all_held k (set xs a x) +ℤ held (get_or xs a nobody) k ≡ all_held k xs +ℤ held x k
 held_set k xs a x h = rw (held_is k (set xs a x), held_is k xs) (total_set (λ (x : Account). held x k) xs a x h)
 
-pub held_share : (k : ℕ) (xs : List Account) (a : ℕ) → a < length xs → All (λ (x : Account). pos 0 ≤ℤ held x k) xs →
+pub held_share : (k : ℕ) (xs : List Account) (a : ℕ) → a < length xs → AllByRecursion (λ (x : Account). pos 0 ≤ℤ held x k) xs →
     held (get_or xs a nobody) k ≤ℤ all_held k xs
 held_share k xs a h f = rw held_is (share (λ (x : Account). held x k) xs a h f)
 
-pub owed_share : (k : ℕ) (xs : List Account) (a : ℕ) → a < length xs → All (λ (x : Account). pos 0 ≤ℤ neg_ℤ (held x k)) xs →
+pub owed_share : (k : ℕ) (xs : List Account) (a : ℕ) → a < length xs → AllByRecursion (λ (x : Account). pos 0 ≤ℤ neg_ℤ (held x k)) xs →
     neg_ℤ (held (get_or xs a nobody) k) ≤ℤ neg_ℤ (all_held k xs)
 owed_share k xs a h f = rw owed_is (share (λ (x : Account). neg_ℤ (held x k)) xs a h f)

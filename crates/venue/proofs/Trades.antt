@@ -1,6 +1,6 @@
 -- A trade: two orders that meet, each carried out in part. One argument for both sides, by what a buyer or a seller gets.
 use Rattle.std.proofs.Common.{◌≡◌, ℕ, ◌+◌, ◌<◌, ◌≤◌, Bool, true, false, not, List, length, ℤ, pos, ◌+ℤ◌, neg_ℤ, refl, subst, arith}
-use Rattle.std.specs.List.{AllByRecursion as All}
+use Rattle.std.specs.List.{AllByRecursion}
 use Rattle.std.proofs.lemmas.Int.{ints}
 use Rattle.std.proofs.lemmas.Bool.{both_ways}
 use Rattle.venue.proofs.Covering.{paid_buy, paid_more, paid_sell}
@@ -20,7 +20,7 @@ moved false x = neg_ℤ (pos x)
 
 -- two orders of a market that may trade; b: whether the first buys
 pub record Fit (w : World) (o r : Order) (b : Bool) : Type 0 where
-  pub wide : All (Wide (length w.items)) w.accounts
+  pub wide : AllByRecursion (Wide (length w.items)) w.accounts
   pub one : Placed (length w.accounts) w.items o
   pub two : Placed (length w.accounts) w.items r
   pub same : r.item ≡ o.item
@@ -29,7 +29,7 @@ pub record Fit (w : World) (o r : Order) (b : Bool) : Type 0 where
   pub low : b ≡ true → r.price ≤ o.price
   pub high : b ≡ false → o.price ≤ r.price
 
-pub fit_meets : (w : World) (o r : Order) → All (Wide (length w.items)) w.accounts → Placed (length w.accounts) w.items o →
+pub fit_meets : (w : World) (o r : Order) → AllByRecursion (Wide (length w.items)) w.accounts → Placed (length w.accounts) w.items o →
     Placed (length w.accounts) w.items r → meets o r ≡ true → (b : Bool) → is_buy o.side ≡ b → Fit w o r b
 fit_meets w o r f ho hr m true e =
     let q = meets_buy o r e m in

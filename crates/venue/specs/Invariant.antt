@@ -1,6 +1,6 @@
 -- All that is kept of a market, as plain facts: the record Inv. Assumes nothing: these are definitions.
 use Rattle.std.specs.Prelude.{◌≡◌, ℕ, suc, ◌+◌, ◌<◌, ◌≤◌, true, false, List, [], ◌∷◌, length, pos, ◌≤ℤ◌, slice_index_or}
-use Rattle.std.specs.List.{AllByRecursion as All}
+use Rattle.std.specs.List.{AllByRecursion}
 use Rattle.venue.specs.Promise.{SoundItems, all_cash, all_held}
 use Rattle.venue.specs.World.{Account, Item, Limits, Order, World, abs, account, buy, held, need, no_item, sell, standing}
 
@@ -26,7 +26,7 @@ Uncrossed b s = b.side ≡ buy → s.side ≡ sell → b.item ≡ s.item → b.p
 
 -- no two of the orders can trade
 abbrev pub Calm : List Order → Type 0
-Calm os = All (λ (b : Order). All (Uncrossed b) os) os
+Calm os = AllByRecursion (λ (b : Order). AllByRecursion (Uncrossed b) os) os
 
 -- so many holdings
 abbrev pub Wide : ℕ → Account → Type 0
@@ -46,14 +46,14 @@ Within h w os = (c k : ℕ) → c < length w.accounts → abs (held (account w c
 
 pub record Inv (z : Limits) (w : World) : Type 0 where
   -- every account has a holding of each item
-  pub wide : All (Wide (length w.items)) w.accounts
-  pub placed : All (Placed (length w.accounts) w.items) w.orders
-  pub left : All Left w.orders
+  pub wide : AllByRecursion (Wide (length w.items)) w.accounts
+  pub placed : AllByRecursion (Placed (length w.accounts) w.items) w.orders
+  pub left : AllByRecursion Left w.orders
   pub numbers : Rising 1 w.orders w.next
   -- all cash is the money paid in, and of each item as much is owed as owned
   pub cash : all_cash w.accounts ≡ pos w.money
   pub held : (k : ℕ) → all_held k w.accounts ≡ pos 0
-  pub rich : All NotBelow w.accounts
+  pub rich : AllByRecursion NotBelow w.accounts
   pub cover : w.trading ≡ true → Cover w w.orders
   pub empty : w.trading ≡ false → w.orders ≡ []
   pub calm : Calm w.orders

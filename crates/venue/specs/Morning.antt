@@ -1,6 +1,6 @@
 -- The day's beginning in plain words: who is torn up, against whom, and what it leaves. Assumes nothing: these are definitions and statements.
 use Rattle.std.specs.Prelude.{◌≡◌, ℕ, ◌<◌, Bool, true, false, ◌&&◌, ◌⊎◌, List, [], ◌∷◌, length, ℤ, pos, ◌+ℤ◌, ◌-ℤ◌, ◌≤ℤ◌, ◌<ℤ◌, ◌==◌}
-use Rattle.std.specs.List.{AllByRecursion as All}
+use Rattle.std.specs.List.{AllByRecursion}
 use Rattle.venue.specs.Sound.{Sound}
 use Rattle.venue.specs.World.{Limits, Report, World, account, begin_day, done, held, need, no, pick, says, tear_all, torn, trade}
 
@@ -61,7 +61,7 @@ at_turn w c = (tear_all c 0 w).0
 -- an account that is covered at its turn is not torn up; one that is not is torn up, and holds nothing afterwards
 abbrev pub Justly : World → ℕ → World → List Report → Type 0
 Justly u c v rs =
-    ((need u c u.orders ≤ℤ (account u c).cash) × All (λ (r : Report). tears_up c r ≡ false) rs)
+    ((need u c u.orders ≤ℤ (account u c).cash) × AllByRecursion (λ (r : Report). tears_up c r ≡ false) rs)
     ⊎ (((account u c).cash <ℤ need u c u.orders) × ((k : ℕ) → k < length u.items → held (account v c) k ≡ pos 0))
 
 -- the market v after the morning of w, with the reports rs

@@ -1,6 +1,6 @@
 -- The ranges of a market's numbers, as machine numbers must hold them. Assumes nothing: these are definitions.
 use Rattle.std.specs.Prelude.{ℕ, ◌<◌, ◌≤◌, length, pos, ◌≤ℤ◌}
-use Rattle.std.specs.List.{AllByRecursion as All}
+use Rattle.std.specs.List.{AllByRecursion}
 use Rattle.venue.specs.World.{Item, Order, World, abs, account, held}
 
 -- an order of one of n accounts in one of m items
@@ -17,8 +17,8 @@ pub record ItemRange (i : Item) : Type 0 where
   pub price : i.price ≤ 1000000
 
 pub record Ranged (w : World) : Type 0 where
-  pub items : All ItemRange w.items
-  pub orders : All (OrderRange (length w.accounts) (length w.items)) w.orders
+  pub items : AllByRecursion ItemRange w.items
+  pub orders : AllByRecursion (OrderRange (length w.accounts) (length w.items)) w.orders
   pub cash : (a : ℕ) → a < length w.accounts → (pos 0 ≤ℤ (account w a).cash) × ((account w a).cash ≤ℤ pos 1125899906842624)
   pub held : (a k : ℕ) → a < length w.accounts → abs (held (account w a) k) ≤ 2147483648
   pub money : w.money ≤ 1125899906842624

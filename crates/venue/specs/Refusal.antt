@@ -1,6 +1,6 @@
 -- What a message's first report says. Assumes nothing: these are definitions and statements.
 use Rattle.std.specs.Prelude.{◌≡◌, ℕ, Bool, true, false, ◌⊎◌, List, [], ◌∷◌}
-use Rattle.std.specs.List.{AllByRecursion as All}
+use Rattle.std.specs.List.{AllByRecursion}
 use Rattle.venue.specs.World.{Limits, Message, Report, World, done, no, says, torn, trade}
 
 -- whether a report is of a trade or of a tear-up
@@ -12,7 +12,7 @@ of_trade (torn a b k s) = true
 
 -- a message is refused, and this is its only report, or it is done, which is its first report, and all others are of trades and tear-ups
 abbrev pub Answered : List Report → Type 0
-Answered rs = (rs ≡ no ∷ []) ⊎ ((n : ℕ) × (qs : List Report) × (rs ≡ done n ∷ qs) × All (λ (r : Report). of_trade r ≡ true) qs)
+Answered rs = (rs ≡ no ∷ []) ⊎ ((n : ℕ) × (qs : List Report) × (rs ≡ done n ∷ qs) × AllByRecursion (λ (r : Report). of_trade r ≡ true) qs)
 
 -- every message is answered
 unfoldable pub AnsweredOnce : Type 0

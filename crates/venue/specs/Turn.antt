@@ -1,6 +1,6 @@
 -- What holds at every turn while an order is carried out. Assumes nothing: these are definitions.
 use Rattle.std.specs.Prelude.{◌≡◌, ℕ, suc, ◌+◌, ◌≤◌, Bool, true, ◌&&◌, [], ◌∷◌, ◌++◌, length, pos, nat_le, nat_lt, slice_index_or}
-use Rattle.std.specs.List.{AllByRecursion as All}
+use Rattle.std.specs.List.{AllByRecursion}
 use Rattle.venue.specs.Invariant.{Calm, Cover, Left, Placed, Rising, Wide, Within}
 use Rattle.venue.specs.Promise.{SoundItems, all_cash, all_held}
 use Rattle.venue.specs.World.{Limits, Order, Side, World, abs, account, best, covered, held, item, lesser, new_order, no_order, standing}
@@ -23,10 +23,10 @@ exchanged w o = lesser o.left (partner w o).left
 
 -- o is the order being placed, with what is left of it. It counts as standing behind all others, though it isn't among them yet
 pub record Turn (z : Limits) (w : World) (o : Order) : Type 0 where
-  pub wide : All (Wide (length w.items)) w.accounts
-  pub placed : All (Placed (length w.accounts) w.items) w.orders
+  pub wide : AllByRecursion (Wide (length w.items)) w.accounts
+  pub placed : AllByRecursion (Placed (length w.accounts) w.items) w.orders
   pub order : Placed (length w.accounts) w.items o
-  pub left : All Left w.orders
+  pub left : AllByRecursion Left w.orders
   pub most : o.left ≤ 1000000
   pub numbers : Rising 1 w.orders o.number
   pub number : w.next ≡ suc o.number

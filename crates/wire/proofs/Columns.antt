@@ -1,6 +1,6 @@
 -- An evening's prices and bands: as a column of numbers, by their index, and as the bytes that they were written to.
 use Rattle.std.proofs.Common.{◌≡◌, ℕ, zero, suc, ◌+◌, ◌*◌, ◌^◌, ◌<◌, ◌≤◌, List, [], ◌∷◌, ◌++◌, map, length, get_or, refl, ap, arith, length-append}
-use Rattle.std.specs.List.{flat_map, AllByRecursion as All}
+use Rattle.std.specs.List.{flat_map, AllByRecursion}
 use Rattle.wire.specs.Number.{four, four_of}
 use Rattle.wire.specs.Means.{column}
 use Rattle.wire.specs.Messages.{pairs}
@@ -21,7 +21,7 @@ get_or_column bs i (suc n) (suc k) l =
     let e : i + 8 * suc k ≡ (i + 8) + 8 * k = omega arith in
     rw e (get_or_column bs (i + 8) n k (omega arith))
 
-pub column_below : (bs : List ℕ) (i n : ℕ) → Bytes bs → All (λ p. p < 2 ^ 32) (column bs i n)
+pub column_below : (bs : List ℕ) (i n : ℕ) → Bytes bs → AllByRecursion (λ p. p < 2 ^ 32) (column bs i n)
 unfolding column
 column_below bs i zero b = tt
 column_below bs i (suc n) b = (four_below bs i b, column_below bs (i + 8) n b)
@@ -39,7 +39,7 @@ length_pairs (p ∷ ps) (q ∷ qs) (suc n) a b =
 
 -- the columns of an evening that was written are its prices and bands
 pub pairs_held : (bs : List ℕ) (i n : ℕ) (ps qs : List ℕ) → length ps ≡ n → length qs ≡ n →
-    All (λ p. p < 2 ^ 32) ps → All (λ q. q < 2 ^ 32) qs → Holds bs i (pairs ps qs) → (column bs i n ≡ ps) × (column bs (i + 4) n ≡ qs)
+    AllByRecursion (λ p. p < 2 ^ 32) ps → AllByRecursion (λ q. q < 2 ^ 32) qs → Holds bs i (pairs ps qs) → (column bs i n ≡ ps) × (column bs (i + 4) n ≡ qs)
 unfolding column pairs
 pairs_held bs i zero [] [] a b f g h = (refl, refl)
 pairs_held bs i zero [] (q ∷ qs) a b f g h = absurd (omega arith)

@@ -2,7 +2,7 @@
 use Rattle.std.proofs.Common.{◌≡◌, ℕ, zero, suc, ◌+◌, ◌^◌, ◌<◌, ◌≤◌, leb, List, [], ◌∷◌, ◌++◌, length, take, drop, Some, None, Option, refl, ap, subst, arith, length-append, take-add}
 use Rattle.std.proofs.lemmas.List.{drop-drop}
 use Rattle.std.proofs.lemmas.Bool.{le-leb, leb-true}
-use Rattle.std.specs.List.{flat_map, AllByRecursion as All}
+use Rattle.std.specs.List.{flat_map, AllByRecursion}
 use Rattle.venue.specs.World as world
 use Rattle.wire.specs.Laws.{ReportBack, ReportOnly, ReportsBack, ReportsOnly}
 use Rattle.wire.specs.Number.{four, four_of}
@@ -21,7 +21,7 @@ report_only_that bs i r k a e = report_only bs i r k (all_bytes bs a) e
 
 -- ---- what was written is read
 
-row_read : (bs : List ℕ) (rs : List world.Report) (i : ℕ) → All ReportFits rs → Holds bs i (flat_map report_bytes rs) →
+row_read : (bs : List ℕ) (rs : List world.Report) (i : ℕ) → AllByRecursion ReportFits rs → Holds bs i (flat_map report_bytes rs) →
     reads_row (length rs) bs i ≡ Some (rs, length (flat_map report_bytes rs))
 unfolding reads_row
 row_read bs [] i f h = refl
@@ -32,7 +32,7 @@ row_read bs (r ∷ rs) i f h =
     let m = row_read bs rs (i + length x) f.1 (behind bs i (i + length x) x xs refl h) in
     rw (e, m, length-append)
 
-reports_read : (bs : List ℕ) (rs : List world.Report) (i : ℕ) → All ReportFits rs → length rs < 2 ^ 32 → Holds bs i (reports_bytes rs) →
+reports_read : (bs : List ℕ) (rs : List world.Report) (i : ℕ) → AllByRecursion ReportFits rs → length rs < 2 ^ 32 → Holds bs i (reports_bytes rs) →
     reads_reports bs i ≡ Some (rs, length (reports_bytes rs))
 unfolding reads_reports reports_bytes
 reports_read bs rs i f l h =
@@ -54,7 +54,7 @@ reports_back before rest rs f l =
 
 -- k bytes at place i are those of n reports, which fit
 abbrev Row : List ℕ → ℕ → ℕ → List world.Report → ℕ → Type 0
-Row bs i n rs k = (take k (drop i bs) ≡ flat_map report_bytes rs) × All ReportFits rs × (length rs ≡ n)
+Row bs i n rs k = (take k (drop i bs) ≡ flat_map report_bytes rs) × AllByRecursion ReportFits rs × (length rs ≡ n)
 
 row_cons : (bs : List ℕ) (i n : ℕ) (r : world.Report) (j : ℕ) (rs : List world.Report) (k : ℕ) →
     (take j (drop i bs) ≡ report_bytes r) × ReportFits r → Row bs (i + j) n rs k → Row bs i (suc n) (r ∷ rs) (j + k)
@@ -91,7 +91,7 @@ row_only (suc n) bs i rs k b e =
 
 -- k bytes at place i are those of the reports and their number
 abbrev Together : List ℕ → ℕ → List world.Report → ℕ → Type 0
-Together bs i rs k = (take k (drop i bs) ≡ reports_bytes rs) × All ReportFits rs × (length rs < 2 ^ 32)
+Together bs i rs k = (take k (drop i bs) ≡ reports_bytes rs) × AllByRecursion ReportFits rs × (length rs < 2 ^ 32)
 
 counted : (bs : List ℕ) (i : ℕ) (rs : List world.Report) (k : ℕ) → Bytes bs → i + 4 ≤ length bs → Row bs (i + 4) (four bs i) rs k → Together bs i rs (4 + k)
 unfolding reports_bytes
@@ -111,7 +111,7 @@ together bs i rs k (Some q) b l e w =
     (subst (λ (y : ℕ). Together bs i q.0 y) p.1 (counted bs i q.0 q.1 b l (row_only (four bs i) bs (i + 4) q.0 q.1 b e)))
 
 pub reports_only : (bs : List ℕ) (i : ℕ) (rs : List world.Report) (k : ℕ) → Bytes bs → reads_reports bs i ≡ Some (rs, k) →
-    (take k (drop i bs) ≡ reports_bytes rs) × All ReportFits rs × (length rs < 2 ^ 32)
+    (take k (drop i bs) ≡ reports_bytes rs) × AllByRecursion ReportFits rs × (length rs < 2 ^ 32)
 unfolding reads_reports
 reports_only bs i rs k b e =
     by_pick (leb (i + 4) (length bs)) _ None (Some (rs, k)) e

@@ -4,7 +4,7 @@ use Rattle.std.proofs.ByRecursion.{All-get_or}
 use Rattle.std.proofs.lemmas.List.{drop_at, get_or_past, take_at}
 use Rattle.std.proofs.lemmas.Bool.{cases_lt, le-leb}
 use Rattle.std.proofs.lemmas.Bool.Decides.{nat_tests}
-use Rattle.std.specs.List.{AllByRecursion as All}
+use Rattle.std.specs.List.{AllByRecursion}
 use Rattle.venue.specs.World.{pick}
 use Rattle.wire.specs.Messages.{whole}
 use Rattle.wire.proofs.Places.{Bytes, Holds, held}
@@ -19,7 +19,7 @@ whole_is bs i k x l = let e = le-leb (i + k) (length bs) l in rw e
 pub stands : (before xs rest : List ℕ) → Holds (before ++ (xs ++ rest)) (length before) xs
 stands before xs rest = rw (drop_at before (xs ++ rest) (length before) refl) (take_at xs rest (length xs) refl)
 
-pub all_bytes : (bs : List ℕ) → All (λ b. b < 256) bs → Bytes bs
+pub all_bytes : (bs : List ℕ) → AllByRecursion (λ b. b < 256) bs → Bytes bs
 all_bytes bs a k =
     ⊎_elim
     (λ (l : k < length bs). All-get_or (λ b. b < 256) bs k 0 l a)

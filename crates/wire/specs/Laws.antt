@@ -1,6 +1,6 @@
 -- What is written is read, and only that: the statements.
 use Rattle.std.specs.Prelude.{◌≡◌, ℕ, ◌^◌, ◌<◌, List, ◌++◌, length, take, drop, Some}
-use Rattle.std.specs.List.{AllByRecursion as All}
+use Rattle.std.specs.List.{AllByRecursion}
 use Rattle.venue.specs.World as world
 use Rattle.wire.specs.Messages.{reads, writes, Fits}
 use Rattle.wire.specs.Reports.{reads_report, reads_reports, report_bytes, ReportFits, reports_bytes}
@@ -14,7 +14,7 @@ MessageBack =
 -- bytes that are read as a message are the bytes that writing it gives, and the message fits
 abbrev pub MessageOnly : Type 0
 MessageOnly =
-    (bs : List ℕ) (i n : ℕ) (m : world.Message) (k : ℕ) → All (λ b. b < 256) bs →
+    (bs : List ℕ) (i n : ℕ) (m : world.Message) (k : ℕ) → AllByRecursion (λ b. b < 256) bs →
     reads bs i n ≡ Some (m, k) → (take k (drop i bs) ≡ writes m) × Fits n m
 
 -- the same of one report
@@ -25,16 +25,16 @@ ReportBack =
 
 abbrev pub ReportOnly : Type 0
 ReportOnly =
-    (bs : List ℕ) (i : ℕ) (r : world.Report) (k : ℕ) → All (λ b. b < 256) bs →
+    (bs : List ℕ) (i : ℕ) (r : world.Report) (k : ℕ) → AllByRecursion (λ b. b < 256) bs →
     reads_report bs i ≡ Some (r, k) → (take k (drop i bs) ≡ report_bytes r) × ReportFits r
 
 -- and of a message's reports together, if four bytes can count them
 abbrev pub ReportsBack : Type 0
 ReportsBack =
-    (before rest : List ℕ) (rs : List world.Report) → All ReportFits rs → length rs < 2 ^ 32 →
+    (before rest : List ℕ) (rs : List world.Report) → AllByRecursion ReportFits rs → length rs < 2 ^ 32 →
     reads_reports (before ++ (reports_bytes rs ++ rest)) (length before) ≡ Some (rs, length (reports_bytes rs))
 
 abbrev pub ReportsOnly : Type 0
 ReportsOnly =
-    (bs : List ℕ) (i : ℕ) (rs : List world.Report) (k : ℕ) → All (λ b. b < 256) bs →
-    reads_reports bs i ≡ Some (rs, k) → (take k (drop i bs) ≡ reports_bytes rs) × All ReportFits rs × (length rs < 2 ^ 32)
+    (bs : List ℕ) (i : ℕ) (rs : List world.Report) (k : ℕ) → AllByRecursion (λ b. b < 256) bs →
+    reads_reports bs i ≡ Some (rs, k) → (take k (drop i bs) ≡ reports_bytes rs) × AllByRecursion ReportFits rs × (length rs < 2 ^ 32)

@@ -1,7 +1,7 @@
 -- Messages in bytes: the kind, then account, item, side, price, quantity, money and order number as the kind needs them.
 -- Assumes nothing: these are definitions.
 use Rattle.std.specs.Prelude.{◌≡◌, ℕ, ◌+◌, ◌*◌, ◌^◌, ◌<◌, ◌≤◌, Bool, true, List, [], ◌∷◌, ◌++◌, length, take, drop, Some, None, Ok, Err, Option, Result, ◌==◌, nat_le, slice_index}
-use Rattle.std.specs.List.{AllByRecursion as All}
+use Rattle.std.specs.List.{AllByRecursion}
 use Rattle.venue.specs.World as world
 use Rattle.venue.specs.World.{pick}
 use Rattle.wire.specs.Number.{two, four, eight, two_of, four_of, eight_of}
@@ -67,7 +67,7 @@ Fits n (world.pay_out a x) = (a < 2 ^ 16) × (x < 2 ^ 64)
 Fits n (world.place a k s p q) = (a < 2 ^ 16) × (k < 2 ^ 16) × (p < 2 ^ 32) × (q < 2 ^ 32)
 Fits n (world.cancel a x) = (a < 2 ^ 16) × (x < 2 ^ 64)
 Fits n (world.end_day ps bs) =
-    (length ps ≡ n) × (length bs ≡ n) × All (λ p. p < 2 ^ 32) ps × All (λ b. b < 2 ^ 32) bs
+    (length ps ≡ n) × (length bs ≡ n) × AllByRecursion (λ p. p < 2 ^ 32) ps × AllByRecursion (λ b. b < 2 ^ 32) bs
 Fits n world.begin_day = Unit {0}
 
 -- whether a message's prices lie in the bytes that it was read from; only an end of day has any
