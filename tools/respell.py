@@ -3,7 +3,7 @@
 
 usage: python3 tools/respell.py [--check]      once, at the top, right after port.py
 
-A name is turned if a file of specs/ or proofs/ declares it with a hyphen: torn-off becomes torn_off, Same-reports becomes SameReports.
+A name is turned if a file of specs/ or proofs/ declares it with a hyphen, parameters and what a let names included: torn-off becomes torn_off, Same-reports becomes SameReports.
 Names that the prover makes (goals, loops, calls) are left: they are declared as 'goal.NAME', or not at all.
 Strings, comments and the names of source functions stay. --check changes nothing and prints what falls together.
 """
@@ -22,8 +22,10 @@ OTHERS = {
     "of-leZ": "of_int_le",
 }
 WORD = re.compile(r'"(?:[^"\\]|\\.)*"|[^\s(){}\[\].,;«»⌜⌝"]+')
-TOP = re.compile(r"^(?:abbrev )?(?:unfoldable )?(?:pub )?(?:abbrev )?(?:record |data )?([^\s(){}\[\].,;:=]+)((?: [({][^=]*[)}])*) :(.*)$")
+TOP = re.compile(r"^\s*(?:abbrev )?(?:unfoldable )?(?:pub )?(?:abbrev )?(?:record |data )?([^\s(){}\[\].,;:=]+)((?: [({][^=]*[)}])*) :(.*)$")
 MEMBER = re.compile(r"^\s+(?:pub )?([^\s(){}\[\].,;:=]+) :(.*)$")
+# parameters, and what a let names
+BOUND = re.compile(r"[({]((?:[^\s(){}\[\].,;:=]+ )+): |\blet ([^\s(){}\[\].,;:=]+) [:=]")
 
 
 def files(ends):
@@ -43,7 +45,12 @@ def declared():
     """Names with a hyphen that a file of specs/ or proofs/ declares and that are no goal's name."""
     found, goals = {}, set()
     for p in files(".antt"):
+        answers = os.path.basename(p) in ("Answers.antt", "Invariants.antt")
         for line in read(p).splitlines():
+            for m in () if answers else BOUND.finditer(line[: comment(line, "--")]):
+                for name in (m.group(1) or m.group(2)).split():
+                    if "-" in name and re.search("[A-Za-z]", name):
+                        found.setdefault(name, p)
             m = TOP.match(line) or MEMBER.match(line)
             if not m or "-" not in m.group(1) or not re.search("[A-Za-z]", m.group(1)):
                 continue

@@ -5,10 +5,10 @@ use Rattle.std.specs.List.{flat_map, AllByRecursion}
 use Rattle.std.proofs.lemmas.List.{get_or_append_left, get_or-append_right}
 
 module _ {X : Type 0} (f : X → List ℕ) (w : ℕ) where
-  abbrev pub Even-rows : List X → Type 0
-  Even-rows xs = AllByRecursion (λ (x : X). length (f x) ≡ w) xs
+  abbrev pub EvenRows : List X → Type 0
+  EvenRows xs = AllByRecursion (λ (x : X). length (f x) ≡ w) xs
 
-  pub length_joined : (xs : List X) → Even-rows xs → length (flat_map f xs) ≡ length xs * w
+  pub length_joined : (xs : List X) → EvenRows xs → length (flat_map f xs) ≡ length xs * w
   length_joined [] h = omega arith
   length_joined (x ∷ xs) h =
       let r = length_joined xs h.1 in
@@ -17,7 +17,7 @@ module _ {X : Type 0} (f : X → List ℕ) (w : ℕ) where
 
   -- place j of row a
   pub get_or_joined :
-      (xs : List X) (a j : ℕ) (d : X) → Even-rows xs → a < length xs → j < w →
+      (xs : List X) (a j : ℕ) (d : X) → EvenRows xs → a < length xs → j < w →
       get_or (flat_map f xs) (a * w + j) 0 ≡ get_or (f (get_or xs a d)) j 0
   get_or_joined [] a j d h l g = absurd (omega arith)
   get_or_joined (x ∷ xs) zero j d h l g =
@@ -36,7 +36,7 @@ module _ {X : Type 0} (f : X → List ℕ) (w : ℕ) where
 
   -- the same by the place alone
   pub get_or_row :
-      (xs : List X) (y : ℕ) (d : X) → 1 ≤ w → Even-rows xs → y < length xs * w →
+      (xs : List X) (y : ℕ) (d : X) → 1 ≤ w → EvenRows xs → y < length xs * w →
       get_or (flat_map f xs) y 0 ≡ get_or (f (get_or xs (y / w) d)) (y % w) 0
   get_or_row xs y d o h l =
       let e = mod-add-div y w in

@@ -7,7 +7,7 @@ use Rattle.venue.specs.World.{Account, Item, Order, World}
 use Rattle.checkpoint.specs.Body.{account_words, head_words, item_words, market_words, order_words}
 use Rattle.checkpoint.specs.Reading.{account_at, accounts_at, orders_at}
 use Rattle.checkpoint.specs.Words.{word_of}
-use Rattle.checkpoint.proofs.Joins.{Even-rows, get_or_joined, length_joined}
+use Rattle.checkpoint.proofs.Joins.{EvenRows, get_or_joined, length_joined}
 
 -- a market of k items and n accounts, in range
 pub record Storable (k n : ℕ) (w : World) : Type 0 where
@@ -18,17 +18,17 @@ pub record Storable (k n : ℕ) (w : World) : Type 0 where
   pub few : length w.orders ≤ 65536
 
 -- rows of equal length
-even_items : (is : List Item) → Even-rows item_words 2 is
+even_items : (is : List Item) → EvenRows item_words 2 is
 unfolding item_words
 even_items [] = tt
 even_items (i ∷ is) = (refl, even_items is)
 
-even_orders : (os : List Order) → Even-rows order_words 6 os
+even_orders : (os : List Order) → EvenRows order_words 6 os
 unfolding order_words
 even_orders [] = tt
 even_orders (o ∷ os) = (refl, even_orders os)
 
-even_accounts : (k : ℕ) (xs : List Account) → AllByRecursion (λ (x : Account). length x.holds ≡ k) xs → Even-rows account_words (1 + k) xs
+even_accounts : (k : ℕ) (xs : List Account) → AllByRecursion (λ (x : Account). length x.holds ≡ k) xs → EvenRows account_words (1 + k) xs
 unfolding account_words
 even_accounts k [] h = tt
 even_accounts k (x ∷ xs) h =

@@ -38,9 +38,9 @@ pub items_from_fit : (bs : List ℕ) (i n : ℕ) → i + 8 * n ≤ length bs →
 unfolding items_fit bad_item items_from
 items_from_fit bs i zero h e = refl
 items_from_fit bs i (suc n) h e =
-    let whole-price : ltb (length bs) (i + 4) ≡ false = grind (arith, nat_tests) in
-    let whole-band : ltb (length bs) (i + 8) ≡ false = grind (arith, nat_tests) in
-    let f = item_tests (price_fits (four bs i)) (band_fits (four bs i) (four bs (i + 4))) i (bad_item bs (i + 8) n) (rw (whole-price, whole-band) at e) in
+    let whole_price : ltb (length bs) (i + 4) ≡ false = grind (arith, nat_tests) in
+    let whole_band : ltb (length bs) (i + 8) ≡ false = grind (arith, nat_tests) in
+    let f = item_tests (price_fits (four bs i)) (band_fits (four bs i) (four bs (i + 4))) i (bad_item bs (i + 8) n) (rw (whole_price, whole_band) at e) in
     rw f.0 (items_from_fit bs (i + 8) n (omega arith) f.1)
 
 -- what is known of the numbers of a disc that is not refused
@@ -105,8 +105,8 @@ pub no_bad_item : (bs : List ℕ) (i n : ℕ) → i + 8 * n ≤ length bs → it
 unfolding items_fit bad_item items_from
 no_bad_item bs i zero h e = refl
 no_bad_item bs i (suc n) h e =
-    let whole-price : ltb (length bs) (i + 4) ≡ false = grind (arith, nat_tests) in
-    let whole-band : ltb (length bs) (i + 8) ≡ false = grind (arith, nat_tests) in
+    let whole_price : ltb (length bs) (i + 4) ≡ false = grind (arith, nat_tests) in
+    let whole_band : ltb (length bs) (i + 8) ≡ false = grind (arith, nat_tests) in
     let f = and_parts (price_fits (four bs i) && band_fits (four bs i) (four bs (i + 4))) (items_fit (items_from bs (i + 8) n)) e in
     let g = and_parts (price_fits (four bs i)) (band_fits (four bs i) (four bs (i + 4))) f.0 in
-    rw (whole-price, whole-band, g.0, g.1) (no_bad_item bs (i + 8) n (omega arith) f.1)
+    rw (whole_price, whole_band, g.0, g.1) (no_bad_item bs (i + 8) n (omega arith) f.1)

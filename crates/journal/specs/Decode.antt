@@ -55,20 +55,20 @@ module _ (c : Format) where
   base_on l d = pick (c.marked (slice_index_or d (flag_at l low) [])) low (pick (c.marked (slice_index_or d (flag_at l high) [])) high fresh)
 
   -- the first fault of the base's body, its market, and how many messages were heard by then; f: the first blocks
-  unfoldable pub base-fault : Lay → Disc → Disc → Base → Option ℕ
-  base-fault l f d fresh = None
-  base-fault l f d low = c.body_fault f (row d (body_at l low) l.body)
-  base-fault l f d high = c.body_fault f (row d (body_at l high) l.body)
+  unfoldable pub base_fault : Lay → Disc → Disc → Base → Option ℕ
+  base_fault l f d fresh = None
+  base_fault l f d low = c.body_fault f (row d (body_at l low) l.body)
+  base_fault l f d high = c.body_fault f (row d (body_at l high) l.body)
 
-  unfoldable pub base-market : Lay → Disc → Disc → Base → World
-  base-market l f d fresh = c.first_market f
-  base-market l f d low = c.body_market f (row d (body_at l low) l.body)
-  base-market l f d high = c.body_market f (row d (body_at l high) l.body)
+  unfoldable pub base_market : Lay → Disc → Disc → Base → World
+  base_market l f d fresh = c.first_market f
+  base_market l f d low = c.body_market f (row d (body_at l low) l.body)
+  base_market l f d high = c.body_market f (row d (body_at l high) l.body)
 
-  unfoldable pub base-heard : Lay → Disc → Disc → Base → ℕ
-  base-heard l f d fresh = 0
-  base-heard l f d low = c.body_heard f (row d (body_at l low) l.body)
-  base-heard l f d high = c.body_heard f (row d (body_at l high) l.body)
+  unfoldable pub base_heard : Lay → Disc → Disc → Base → ℕ
+  base_heard l f d fresh = 0
+  base_heard l f d low = c.body_heard f (row d (body_at l low) l.body)
+  base_heard l f d high = c.body_heard f (row d (body_at l high) l.body)
 
   -- the base's journal
   abbrev pub walked : Lay → Disc → Disc → Base → Walked
@@ -76,8 +76,8 @@ module _ (c : Format) where
 
   unfoldable pub opened : Lay → Disc → Disc → Base → Found
   opened l f d b =
-      unless_fault (body_at l b) (base-fault l f d b)
-      (replayed (c.limits f) (base-market l f d b) (base-heard l f d b) (journal_at l b) (walked l f d b))
+      unless_fault (body_at l b) (base_fault l f d b)
+      (replayed (c.limits f) (base_market l f d b) (base_heard l f d b) (journal_at l b) (walked l f d b))
 
   -- what a start finds on a disc whose first blocks are as they should be. The area that is not the base's is not looked at
   unfoldable pub decode : Disc → Found
@@ -91,5 +91,5 @@ module _ (c : Format) where
   unfoldable pub refused : Limits → Disc → Bool
   refused z d = not (is_disc d) || (is_some (refusal d) || not (c.agrees z (first_blocks c d)))
 
-  unfoldable pub world-on : Disc → World
-  world-on d = market_of (decode d)
+  unfoldable pub world_on : Disc → World
+  world_on d = market_of (decode d)

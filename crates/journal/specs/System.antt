@@ -3,7 +3,7 @@ use Rattle.std.specs.Prelude.{ℕ, suc, ◌+◌, Bool, List, [], ◌∷◌, ◌+
 use Rattle.venue.specs.World.{Limits, Message, Report, World, no, pick, says, written}
 use Rattle.blocks.specs.Disc.{Disc}
 use Rattle.blocks.specs.Writes.{Write, listed}
-use Rattle.journal.specs.Decode.{base_on, counted, decode, end_of, heard_of, world-on}
+use Rattle.journal.specs.Decode.{base_on, counted, decode, end_of, heard_of, world_on}
 use Rattle.journal.specs.Format.{Format}
 use Rattle.journal.specs.Places.{Base, Lay, body_at, first_blocks, flag_at, fresh, high, journal_at, lay, low, moved}
 
@@ -18,22 +18,22 @@ pub record System : Type 0 where
 
 module _ (c : Format) where
   -- Appending a message at the journal's end e. First what is not looked at yet: no mark behind the new record, and its content; last its own mark, which commits.
-  unfoldable pub content-writes : Lay → Disc → Base → ℕ → Message → List Write
-  content-writes l f b e m =
+  unfoldable pub content_writes : Lay → Disc → Base → ℕ → Message → List Write
+  content_writes l f b e m =
       (journal_at l b + (suc e + length (c.content f m)), c.blank) ∷ listed (journal_at l b + suc e) (c.content f m)
 
   unfoldable pub appending : Lay → Disc → Base → ℕ → Message → List Write
-  appending l f b e m = content-writes l f b e m ++ (journal_at l b + e, c.mark) ∷ []
+  appending l f b e m = content_writes l f b e m ++ (journal_at l b + e, c.mark) ∷ []
 
   -- A checkpoint in the area that is not in use: its body, and an empty journal.
   unfoldable pub copied : Lay → Disc → World → ℕ → Base → List Write
   copied l f w h b = listed (body_at l b) (c.body f w h) ++ (journal_at l b, c.blank) ∷ []
 
   -- All its writes but the last are of blocks that are not looked at. While area 0 is valid area 1's commit block is not looked at either.
-  unfoldable pub body-writes : Lay → Disc → Base → World → ℕ → List Write
-  body-writes l f fresh w h = copied l f w h high
-  body-writes l f low w h = copied l f w h high ++ (flag_at l high, c.mark) ∷ []
-  body-writes l f high w h = copied l f w h low
+  unfoldable pub body_writes : Lay → Disc → Base → World → ℕ → List Write
+  body_writes l f fresh w h = copied l f w h high
+  body_writes l f low w h = copied l f w h high ++ (flag_at l high, c.mark) ∷ []
+  body_writes l f high w h = copied l f w h low
 
   -- the write that makes the new area count
   unfoldable pub turning : Lay → Base → Write
@@ -42,7 +42,7 @@ module _ (c : Format) where
   turning l high = (flag_at l low, c.mark)
 
   unfoldable pub moving : Lay → Disc → Base → World → ℕ → List Write
-  moving l f b w h = body-writes l f b w h ++ turning l b ∷ []
+  moving l f b w h = body_writes l f b w h ++ turning l b ∷ []
 
   unfoldable pub start : Limits → Disc → System
   start z d =
@@ -51,7 +51,7 @@ module _ (c : Format) where
         base = base_on c (lay c d) d;
         end = end_of (decode c d);
         heard = heard_of (decode c d);
-        market = world-on c d;
+        market = world_on c d;
         sent = [];
       }
 

@@ -19,11 +19,11 @@ module _ (z : Limits) (w : World) where
       (λ e. let p = and_parts w.trading (prices_fit w.items ps qs) e in n p.0 p.1)
 
   module _ (bs : List ℕ) (n i : ℕ) where
-    abbrev pub May-end : Type 0
-    May-end =
+    abbrev pub MayEnd : Type 0
+    MayEnd =
         (i + 8 * n ≤ length bs) × (w.trading ≡ true) × (prices_fit w.items (column bs i n) (column bs (i + 4) n) ≡ true)
 
-    pub not_ended : 1 ≤ length w.items → (May-end → ⊥) → says_it z w (message_of bs n (EndDay i)) ≡ (w, no ∷ [])
+    pub not_ended : 1 ≤ length w.items → (MayEnd → ⊥) → says_it z w (message_of bs n (EndDay i)) ≡ (w, no ∷ [])
     not_ended s h =
         ⊎_elim
         (λ (e : leb (i + 8 * n) (length bs) ≡ true).
@@ -31,7 +31,7 @@ module _ (z : Limits) (w : World) where
         (λ (e : leb (i + 8 * n) (length bs) ≡ false). rw e (refused [] [] (λ t f. none_fit w.items s f)))
         (cases_Bool (leb (i + 8 * n) (length bs)))
 
-    pub ended : May-end → says_it z w (message_of bs n (EndDay i)) ≡ (
+    pub ended : MayEnd → says_it z w (message_of bs n (EndDay i)) ≡ (
       record {
         items = new_items (column bs i n) (column bs (i + 4) n);
         accounts = paid w.items (column bs i n) w.accounts;

@@ -82,10 +82,10 @@ every : ℕ → Bool
 every k = true
 
 module _ (o m : ℕ) (w : World) (ps bs : List ℕ) where
-  abbrev all-built : Limits
-  all-built = record { orders = o; money = m; holding = 2147483648; built = every }
+  abbrev all_built : Limits
+  all_built = record { orders = o; money = m; holding = 2147483648; built = every }
 
-  ended : w.trading ≡ true → prices_fit w.items ps bs ≡ true → (says all-built w (end_day ps bs)).0.accounts ≡ paid w.items ps w.accounts
+  ended : w.trading ≡ true → prices_fit w.items ps bs ≡ true → (says all_built w (end_day ps bs)).0.accounts ≡ paid w.items ps w.accounts
   unfolding says says_it every
   ended t f = rw (t, f)
 
@@ -95,9 +95,9 @@ unfolding account
 standing_settles o m k w most s =
     record {
       cash = λ t ps bs f a h.
-          let y = all-built o m w ps bs in
+          let y = all_built o m w ps bs in
           let so = inv_sound y w (inv_any (record { orders = o; money = m; holding = 2147483648; built = k }) w (sound_inv _ w s.sound) every) in
-          let si : Sized (all-built o m w ps bs) w = record {
+          let si : Sized (all_built o m w ps bs) w = record {
             some_items = s.sized.some_items;
             few_items = s.sized.few_items;
             some_accounts = s.sized.some_accounts;

@@ -29,11 +29,11 @@ unfolding with_orders account item
 roomy_orders c h w os r = record { wide = r.wide; cash = r.cash; held = r.held; priced = r.priced }
 
 module _ (c h X : ℕ) (w : World) (a k : ℕ) (x : ℤ) (p : ℕ) (r : Roomy c h w) (i : a < length w.accounts) (j : k < length w.items)
-    (x-in : Within X x) (p-in : p ≤ 2000000) where
+    (x_in : Within X x) (p_in : p ≤ 2000000) where
   cost_in : Within (X * 2000000) (x *ℤ (pos p -ℤ pos (item w k).price))
   cost_in =
       let q = r.priced k j in
-      times_within x (pos p -ℤ pos (item w k).price) X 2000000 x-in (omega (arith, ints), omega (arith, ints))
+      times_within x (pos p -ℤ pos (item w k).price) X 2000000 x_in (omega (arith, ints), omega (arith, ints))
 
   pub many_gets : length (gets w a k x p).accounts ≡ length w.accounts
   unfolding gets with_account
@@ -63,7 +63,7 @@ module _ (c h X : ℕ) (w : World) (a k : ℕ) (x : ℤ) (p : ℕ) (r : Roomy c 
   held_here m l =
       let n : k < length (account w a).holds = omega (arith, r.wide a i) in
       ⊎_elim
-      (λ (e : m ≡ k). rw (e, get_or-set_same) (within_more _ _ h X (r.held a k i j) x-in))
+      (λ (e : m ≡ k). rw (e, get_or-set_same) (within_more _ _ h X (r.held a k i j) x_in))
       (λ (e : m ≡ k → ⊥). rw get_or-set_other (within_wider _ h (h + X) (omega arith) (r.held a m i l)))
       (cases_eq m k)
 
@@ -105,11 +105,11 @@ items_gets w a k x p = refl
 
 pub still_roomy : (w v : World) (a k : ℕ) (x : ℤ) (p : ℕ) → v ≡ gets w a k x p → Roomy 1125899906842624 2147483648 w →
     a < length w.accounts → k < length w.items → Within 2147483648 x → p ≤ 2000000 → StillRoomy w v
-still_roomy w v a k x p e r i j x-in p-in =
-    let g = roomy_gets 1125899906842624 2147483648 2147483648 w a k x p r i j x-in p-in in
+still_roomy w v a k x p e r i j x_in p_in =
+    let g = roomy_gets 1125899906842624 2147483648 2147483648 w a k x p r i j x_in p_in in
     subst (StillRoomy w) (sym e)
     (record {
       roomy = roomy_wider _ _ 1000000000000000000 1000000000000 _ (omega arith) (omega arith) g;
-      accounts = many_gets 1125899906842624 2147483648 2147483648 w a k x p r i j x-in p-in;
+      accounts = many_gets 1125899906842624 2147483648 2147483648 w a k x p r i j x_in p_in;
       items = items_gets w a k x p;
     })

@@ -36,7 +36,7 @@ module _ (z : Limits) (a k : ℕ) where
       let two = step_two z w a b k p s g refl la lb ne lk t in
       let deep : k < length (account w a).holds = omega (arith, wide_at (length w.items) w a la g.inv.wide) in
       let lv : b < length v.accounts = omega (arith, many_gets w a k (neg_ℤ s) p) in
-      let deep-too : k < length (account v b).holds =
+      let deep_too : k < length (account v b).holds =
       omega (arith, wide_at (length w.items) v b lv (wide_gets (length w.items) w a k (neg_ℤ s) p la g.inv.wide)) in
       record {
         opposed = opposed (held (account w a) k) (held (account w b) k) e;
@@ -47,7 +47,7 @@ module _ (z : Limits) (a k : ℕ) where
             rw (one, two) (one_is_0 (held (account w a) k) (held (account w b) k) _ _ e t.one t.two t.apart);
         near = between (held (account w a) k) (held (account (torn_step w a b k) a) k) (n.near a k);
         near_too = between (held (account w b) k) (held (account (torn_step w a b k) b) k) (n.near b k);
-        others = λ c j f h. gets_others v b k s p c j lv deep-too h ∙ gets_others w a k (neg_ℤ s) p c j la deep f;
+        others = λ c j f h. gets_others v b k s p c j lv deep_too h ∙ gets_others w a k (neg_ℤ s) p c j la deep f;
         cash = n.cash;
       }
 

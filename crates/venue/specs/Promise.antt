@@ -41,7 +41,7 @@ Safe w =
 
 -- THE MAIN PROMISE, first half: a market with sorted books, indexes, a journal on a disc and restarts reports what this one does.
 -- A system is given by the kinds of messages that it has yet, which discs it takes, what market they hold, how it starts, what a message does, its disc, its last message's writes, and what it holds of each market that it takes
-module _ (System : Type 0) (kinds : ℕ → Bool) (refused : Limits → List (List ℕ) → Bool) (world-on : List (List ℕ) → World)
+module _ (System : Type 0) (kinds : ℕ → Bool) (refused : Limits → List (List ℕ) → Bool) (world_on : List (List ℕ) → World)
     (start : Limits → List (List ℕ) → System) (hears : Limits → System → Message → System × List Report)
     (disc : System → List (List ℕ)) (writes : System → List (ℕ × List ℕ)) (sound : Limits → World → Type 0) where
   -- discs that its start doesn't refuse
@@ -68,32 +68,32 @@ module _ (System : Type 0) (kinds : ℕ → Bool) (refused : Limits → List (Li
   told_in z d (l ∷ ls) =
       (l.0, all_done z d l.0 l.1, handed (all_done z d l.0 l.1) (told z (start z d) l.0)) ∷ told_in z (left_by z d l.0 l.1) ls
 
-  unfoldable pub Same-reports : Type 0
-  Same-reports = (z : Limits) (d : List (List ℕ)) (ls : List (List Message × Cut)) → takes z d → Lives z (world-on d) (told_in z d ls)
+  unfoldable pub SameReports : Type 0
+  SameReports = (z : Limits) (d : List (List ℕ)) (ls : List (List Message × Cut)) → takes z d → Lives z (world_on d) (told_in z d ls)
 
   -- what a cut leaves is a disc that is taken
-  unfoldable pub Comes-up : Type 0
-  Comes-up = (z : Limits) (d : List (List ℕ)) (ms : List Message) (c : Cut) → takes z d → takes z (left_by z d ms c)
+  unfoldable pub ComesUp : Type 0
+  ComesUp = (z : Limits) (d : List (List ℕ)) (ms : List Message) (c : Cut) → takes z d → takes z (left_by z d ms c)
 
   -- the disc changes by writes only
-  unfoldable pub By-writes : Type 0
-  By-writes =
+  unfoldable pub ByWrites : Type 0
+  ByWrites =
       ((z : Limits) (d : List (List ℕ)) → disc (start z d) ≡ written d (writes (start z d)))
       × ((z : Limits) (s : System) (m : Message) → disc (hears z s m).0 ≡ written (disc s) (writes (hears z s m).0))
 
   -- a disc that is taken holds a sound market: first markets are sound, messages keep them so, and a sound market is safe. A start checks this of a picture
-  unfoldable pub Come-about : Type 0
-  Come-about =
-      ((z : Limits) (d : List (List ℕ)) → takes z d → sound z (world-on d))
+  unfoldable pub ComeAbout : Type 0
+  ComeAbout =
+      ((z : Limits) (d : List (List ℕ)) → takes z d → sound z (world_on d))
       × ((z : Limits) (is : List Item) (n : ℕ) → SoundItems is → sound z (first is n))
       × ((z : Limits) (w : World) (m : Message) → sound z w → sound z (says z w m).0)
       × ((z : Limits) (w : World) → sound z w → Safe w)
 
   -- and for every list of items and number of accounts there is a disc with the first morning
-  unfoldable pub Holds-all : Type 0
-  Holds-all =
+  unfoldable pub HoldsAll : Type 0
+  HoldsAll =
       (z : Limits) (is : List Item) (n : ℕ) → SoundItems is → 1 ≤ length is → length is ≤ 256 → 1 ≤ n → n ≤ 4096 → 1 ≤ z.orders → z.orders ≤ 65536 →
-      z.money ≤ 1125899906842624 → z.holding ≡ 2147483648 → ((k : ℕ) → z.built k ≡ kinds k) → (d : List (List ℕ)) × takes z d × (world-on d ≡ first is n)
+      z.money ≤ 1125899906842624 → z.holding ≡ 2147483648 → ((k : ℕ) → z.built k ≡ kinds k) → (d : List (List ℕ)) × takes z d × (world_on d ≡ first is n)
 
 -- second half: as long as the prices at day's end are within the bands, nobody's money is ever below 0;
 -- and while there is trading everybody can lose all that can be lost by the day's end
