@@ -2,9 +2,13 @@
 #![tactic(auto)]
 
 use session::program;
+use std::process::ExitCode;
 use wire::Kinds;
 
 // None is built yet, so each message is refused by its report.
-fn main(rt: HostRuntime) -> anyhow::Result<()> {
-    program(&rt, "market", Kinds::none())
+fn main(rt: HostRuntime) -> ExitCode {
+    match program(&rt, "market", Kinds::none()) {
+        Ok(()) => ExitCode::SUCCESS,
+        Err(_) => ExitCode::FAILURE,
+    }
 }

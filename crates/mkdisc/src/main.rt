@@ -5,6 +5,7 @@ use anyhow::anyhow;
 use std::alloc::Global;
 use std::fs::{OpenFile, OpenOptions};
 use std::io::Write;
+use std::process::ExitCode;
 use std::{env, fs};
 use text::read_setup;
 
@@ -52,12 +53,12 @@ fn run(rt: &HostRuntime) -> anyhow::Result<()> {
     make(rt, setup.as_str(), path.as_str())
 }
 
-fn main(rt: HostRuntime) -> anyhow::Result<()> {
+fn main(rt: HostRuntime) -> ExitCode {
     match run(&rt) {
-        Ok(()) => Ok(()),
+        Ok(()) => ExitCode::SUCCESS,
         Err(error) => {
-            eprintln!(rt; "mkdisc: {error}")?;
-            Err(error)
+            let _ = eprintln!(rt; "mkdisc: {error}");
+            ExitCode::FAILURE
         }
     }
 }

@@ -2,8 +2,12 @@
 #![tactic(auto)]
 
 use session::program;
+use std::process::ExitCode;
 use wire::Kinds;
 
-fn main(rt: HostRuntime) -> anyhow::Result<()> {
-    program(&rt, "plain", Kinds::all())
+fn main(rt: HostRuntime) -> ExitCode {
+    match program(&rt, "plain", Kinds::all()) {
+        Ok(()) => ExitCode::SUCCESS,
+        Err(_) => ExitCode::FAILURE,
+    }
 }

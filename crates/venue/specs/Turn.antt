@@ -5,7 +5,7 @@ use Rattle.venue.specs.Invariant.{Calm, Cover, Left, Placed, Rising, Wide, Withi
 use Rattle.venue.specs.Promise.{SoundItems, all_cash, all_held}
 use Rattle.venue.specs.World.{Limits, Order, Side, World, abs, account, best, covered, held, item, lesser, new_order, no_order, standing}
 
--- whether account a may place an order, as `says-it` asks
+-- whether account a may place an order, as `says_it` asks
 abbrev pub may_place : Limits → World → ℕ → ℕ → Side → ℕ → ℕ → Bool
 may_place z w a k s p q =
     (w.trading && (nat_lt a (length w.accounts) && nat_lt k (length w.items))) &&

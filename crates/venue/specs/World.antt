@@ -45,7 +45,7 @@ pub record Account : Type 0 where
   pub holds : List ℤ
 
 -- most orders that may stand, most money that may be in all accounts together, most of an item that an account may come to hold or owe,
--- and which kinds of messages there are yet, by their numbers: pay-in 1, pay-out 2, place 3, cancel 4, end-day 5, begin-day 6
+-- and which kinds of messages there are yet, by their numbers: pay_in 1, pay_out 2, place 3, cancel 4, end_day 5, begin_day 6
 pub record Limits : Type 0 where
   pub orders : ℕ
   pub money : ℕ
