@@ -47,10 +47,10 @@ def declared():
     for p in files(".antt"):
         answers = os.path.basename(p) in ("Answers.antt", "Invariants.antt")
         for line in read(p).splitlines():
-            for m in () if answers else BOUND.finditer(line[: comment(line, "--")]):
-                for name in (m.group(1) or m.group(2)).split():
-                    if "-" in name and re.search("[A-Za-z]", name):
-                        found.setdefault(name, p)
+            bound = [] if answers else BOUND.finditer(line[: comment(line, "--")])
+            for name in (n for b in bound for n in (b.group(1) or b.group(2)).split()):
+                if "-" in name and re.search("[A-Za-z]", name):
+                    found.setdefault(name, p)
             m = TOP.match(line) or MEMBER.match(line)
             if not m or "-" not in m.group(1) or not re.search("[A-Za-z]", m.group(1)):
                 continue
@@ -76,7 +76,7 @@ def comment(line, mark):
     for i, ch in enumerate(line):
         if ch == '"':
             inside = not inside
-        elif not inside and line.startswith(mark, i) and (mark == "//" or i == 0 or line[i - 1] == " ") :
+        elif not inside and line.startswith(mark, i) and (mark == "//" or i == 0 or line[i - 1] == " "):
             return i
     return len(line)
 

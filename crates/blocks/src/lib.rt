@@ -1,2 +1,2 @@
-// Blocks of a disc in a lent slice of bytes, and the writes of them.
+// A disc as blocks, and writes of blocks. So far the definitions.
 #![tactic(auto)]

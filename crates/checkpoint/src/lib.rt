@@ -1,2 +1,2 @@
-// A market whole, as the body of a checkpoint on a disc.
+// A market as the words of a checkpoint's body. So far the definitions, and lemmas about words.
 #![tactic(auto)]

@@ -1,2 +1,2 @@
-// The journal of a market on its disc: whatever a power cut leaves, the market is the one before the last message or the one after it.
+// Records, checkpoints and what a start reads of them. So far the definitions, of which nothing is proved yet.
 #![tactic(auto)]

@@ -1,5 +1,5 @@
 -- Parts of what a message does, as the program's functions name them. Assumes nothing: these are definitions.
-use Rattle.std.specs.Prelude.{ℕ, suc, ◌+◌, ◌-◌, ◌*◌, Bool, not, ◌&&◌, List, [], ◌∷◌, ◌++◌, length, get_or, ℤ, neg_ℤ, Some, None, Option, ◌==◌, nat_le, nat_lt, slice_index_or}
+use Rattle.std.specs.Prelude.{ℕ, suc, ◌+◌, ◌-◌, ◌*◌, Bool, not, ◌&&◌, List, [], ◌∷◌, ◌++◌, length, slice_index_or, ℤ, neg_ℤ, Some, None, Option, ◌==◌, nat_le, nat_lt}
 use Rattle.venue.specs.World as world
 
 -- what one order adds to an account's `buys` and `sells` in an item
@@ -31,7 +31,7 @@ found a n os = world.pick (nat_lt (world.number_at a n os) (length os)) (Some (w
 unfoldable pub first_of : world.Order → List world.Order → ℕ → ℕ → Bool
 first_of o os i j =
     world.meets o (slice_index_or os i world.no_order)
-    && not (nat_lt j (length os) && world.better o (get_or os j world.no_order).price (get_or os i world.no_order).price)
+    && not (nat_lt j (length os) && world.better o (slice_index_or os j world.no_order).price (slice_index_or os i world.no_order).price)
 
 -- what a place asks but for what the account comes to hold and can lose
 abbrev pub well_formed : world.Limits → world.World → ℕ → ℕ → ℕ → ℕ → Bool

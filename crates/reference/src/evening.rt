@@ -1,5 +1,5 @@
 // The day's end: each holding's gain or loss is paid, new prices and bands hold, and orders are gone.
-ghost use Rattle.std.specs.Prelude.{◌≡◌, ℕ, ◌+◌, ◌*◌, ◌^◌, ◌<◌, ◌≤◌, Bool, ◌&&◌, map, length, get_or, pos, ◌+ℤ◌, ◌-ℤ◌, ◌*ℤ◌, vec_len, vec_capacity, nat_le, slice_index_or};
+ghost use Rattle.std.specs.Prelude.{◌≡◌, ℕ, ◌+◌, ◌*◌, ◌^◌, ◌<◌, ◌≤◌, Bool, ◌&&◌, map, length, slice_index_or, pos, ◌+ℤ◌, ◌-ℤ◌, ◌*ℤ◌, vec_len, vec_capacity, nat_le};
 ghost use Rattle.reference.specs.Means.{account_of, order_of, world_of, limits_of};
 ghost use Rattle.reference.specs.Conditions.{Fit, Settles, Within};
 ghost use Rattle.reference.specs.Parts.{answer};
@@ -61,8 +61,8 @@ fn gain(account: &Account, items: &[Item], bytes: &[u8], at: usize) -> i128
 fn settle(accounts: &mut Vec<Account>, items: &[Item], bytes: &[u8], at: usize)
     requires inside { at + 8 * length items.now ≤ length bytes.now }
     requires few { length items.now ≤ 256 }
-    requires shaped { (a : ℕ) → a < vec_len accounts.old → length (get_or (map account_of accounts.old.items) a world.nobody).holds ≡ length items.now }
-    requires fits { (a : ℕ) → a < vec_len accounts.old → Within 1125899906842624 ((get_or (map account_of accounts.old.items) a world.nobody).cash +ℤ world.gain 0 (map item_of items.now) (column bytes.now at (length items.now)) (slice_index_or (map account_of accounts.old.items) a world.nobody)) }
+    requires shaped { (a : ℕ) → a < vec_len accounts.old → length (slice_index_or (map account_of accounts.old.items) a world.nobody).holds ≡ length items.now }
+    requires fits { (a : ℕ) → a < vec_len accounts.old → Within 1125899906842624 ((slice_index_or (map account_of accounts.old.items) a world.nobody).cash +ℤ world.gain 0 (map item_of items.now) (column bytes.now at (length items.now)) (slice_index_or (map account_of accounts.old.items) a world.nobody)) }
     ensures { map account_of accounts.new.items ≡ world.paid (map item_of items.now) (column bytes.now at (length items.now)) (map account_of accounts.old.items) }
 {
     for a in 0..accounts.len() {

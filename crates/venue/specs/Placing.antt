@@ -1,5 +1,5 @@
 -- An order being placed, in plain words: when it is taken, which trades it makes, and what they move. Assumes nothing: these are definitions and statements.
-use Rattle.std.specs.Prelude.{◌≡◌, ℕ, suc, ◌+◌, ◌-◌, ◌<◌, ◌≤◌, true, ◌&&◌, ◌⊎◌, List, [], ◌∷◌, ◌++◌, length, get_or, take, drop, pos, ◌+ℤ◌, ◌-ℤ◌, ◌*ℤ◌, ◌≤ℤ◌, ◌==◌, slice_index_or}
+use Rattle.std.specs.Prelude.{◌≡◌, ℕ, suc, ◌+◌, ◌-◌, ◌<◌, ◌≤◌, true, ◌&&◌, ◌⊎◌, List, [], ◌∷◌, ◌++◌, length, slice_index_or, take, drop, pos, ◌+ℤ◌, ◌-ℤ◌, ◌*ℤ◌, ◌≤ℤ◌, ◌==◌}
 use Rattle.venue.specs.Priority.{CanTrade, FirstFor}
 use Rattle.venue.specs.Settlement.{InBand}
 use Rattle.venue.specs.Sound.{Sound}
@@ -53,7 +53,7 @@ pub data Carried : World → Order → List Report → World → Type 0 where
       Carried w o [] (with_orders w (w.orders ++ o ∷ []))
   trades : {w v u : World} {o : Order} {rs : List Report} (j x : ℕ) → TradesWith w v o (slice_index_or w.orders j no_order) j x →
       Carried v (less_left o x) rs u →
-      Carried w o (trade o.number (get_or w.orders j no_order).number o.item (get_or w.orders j no_order).price x ∷ rs) u
+      Carried w o (trade o.number (slice_index_or w.orders j no_order).number o.item (slice_index_or w.orders j no_order).price x ∷ rs) u
 
 -- an order is taken exactly if the account may place it
 unfoldable pub PlaceTaken : Type 0

@@ -1,5 +1,5 @@
 -- Price and time priority, in plain words. Assumes nothing: these are statements.
-use Rattle.std.specs.Prelude.{◌≡◌, ℕ, ◌<◌, ◌≤◌, true, ◌↔◌, List, length, get_or, slice_index_or}
+use Rattle.std.specs.Prelude.{◌≡◌, ℕ, ◌<◌, ◌≤◌, true, ◌↔◌, List, length, slice_index_or}
 use Rattle.venue.specs.Sound.{Sound}
 use Rattle.venue.specs.World.{Limits, Order, Side, World, best, buy, meets, no_order, sell}
 
@@ -22,8 +22,8 @@ AsGood sell p q = q ≤ p
 pub record FirstFor (o : Order) (os : List Order) (b : ℕ) : Type 0 where
   pub there : b < length os
   pub can : CanTrade o (slice_index_or os b no_order)
-  pub price : (j : ℕ) → j < length os → CanTrade o (slice_index_or os j no_order) → AsGood o.side (get_or os b no_order).price (get_or os j no_order).price
-  pub time : (j : ℕ) → j < length os → CanTrade o (slice_index_or os j no_order) → (get_or os j no_order).price ≡ (get_or os b no_order).price → b ≤ j
+  pub price : (j : ℕ) → j < length os → CanTrade o (slice_index_or os j no_order) → AsGood o.side (slice_index_or os b no_order).price (slice_index_or os j no_order).price
+  pub time : (j : ℕ) → j < length os → CanTrade o (slice_index_or os j no_order) → (slice_index_or os j no_order).price ≡ (slice_index_or os b no_order).price → b ≤ j
 
 -- `best` names the order that o trades with first, and the number of orders or more exactly if there is none that can trade with o
 unfoldable pub BestIsFirst : Type 0
@@ -36,5 +36,5 @@ BestIsFirst =
 unfoldable pub BestIsOldest : Type 0
 BestIsOldest =
     (z : Limits) (w : World) (o : Order) (j : ℕ) → Sound z w → best o w.orders < length w.orders → j < length w.orders →
-    CanTrade o (slice_index_or w.orders j no_order) → (get_or w.orders j no_order).price ≡ (get_or w.orders (best o w.orders) no_order).price →
-    (get_or w.orders (best o w.orders) no_order).number ≤ (get_or w.orders j no_order).number
+    CanTrade o (slice_index_or w.orders j no_order) → (slice_index_or w.orders j no_order).price ≡ (slice_index_or w.orders (best o w.orders) no_order).price →
+    (slice_index_or w.orders (best o w.orders) no_order).number ≤ (slice_index_or w.orders j no_order).number

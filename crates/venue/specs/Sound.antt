@@ -1,5 +1,5 @@
 -- All that is kept of a market, as a test that a program could make. Assumes nothing: these are definitions.
-use Rattle.std.specs.Prelude.{◌≡◌, ℕ, zero, suc, ◌+◌, Bool, true, not, ◌&&◌, ◌||◌, List, [], ◌∷◌, length, ℤ, pos, ◌==◌, int_le, nat_eq, nat_le, nat_lt}
+use Rattle.std.specs.Prelude.{◌≡◌, ℕ, zero, suc, ◌+◌, Bool, true, not, ◌&&◌, ◌||◌, List, [], ◌∷◌, length, ℤ, pos, ◌==◌, int_le, nat_le, nat_lt}
 use Rattle.venue.specs.Promise.{all_cash, all_held}
 use Rattle.venue.specs.World.{Account, Item, Limits, Order, World, abs, account, covered, held, is_buy, item, standing}
 
@@ -19,7 +19,7 @@ same a b = int_le a b && int_le b a
 
 -- every account has a holding of each item
 unfoldable pub holds_each : World → Bool
-holds_each w = every (λ (x : Account). nat_eq (length x.holds) (length w.items)) w.accounts
+holds_each w = every (λ (x : Account). length x.holds == length w.items) w.accounts
 
 -- the order's account and item are there, and its price lies within the item's band
 unfoldable pub in_place : World → Order → Bool

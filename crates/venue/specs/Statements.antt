@@ -1,5 +1,5 @@
 -- What is promised of soundness, ranges and reports. Each is a statement, a type whose proof is owed. Assumes nothing.
-use Rattle.std.specs.Prelude.{◌≡◌, ℕ, ◌+◌, ◌*◌, ◌<◌, ◌≤◌, max, true, List, length, get_or, take, pos, ◌≤ℤ◌, ◌<ℤ◌, slice_index_or}
+use Rattle.std.specs.Prelude.{◌≡◌, ℕ, ◌+◌, ◌*◌, ◌<◌, ◌≤◌, max, true, List, length, slice_index_or, take, pos, ◌≤ℤ◌, ◌<ℤ◌}
 use Rattle.venue.specs.Invariant.{Inv}
 use Rattle.venue.specs.Promise.{Safe, SoundItems}
 use Rattle.venue.specs.Ranges.{OrderRange, Ranged}
@@ -32,7 +32,7 @@ TurnsHold =
     ((z : Limits) (w : World) (a k : ℕ) (s : Side) (p q : ℕ) → Sound z w → may_place z w a k s p q ≡ true →
     Turn z (counted w) (new_order w a k s p q))
     × ((z : Limits) (w : World) (o : Order) (j x : ℕ) → Turn z w o → j < length w.orders → meets o (slice_index_or w.orders j no_order) ≡ true →
-    x ≤ o.left → x ≤ (get_or w.orders j no_order).left → Turn z (traded w o (slice_index_or w.orders j no_order) j x) (less_left o x))
+    x ≤ o.left → x ≤ (slice_index_or w.orders j no_order).left → Turn z (traded w o (slice_index_or w.orders j no_order) j x) (less_left o x))
 
 -- how many items and accounts there are, and the limits, stay
 unfoldable pub SizesStay : Type 0

@@ -1,5 +1,5 @@
 -- A trade never makes anybody less able to pay. Assumes nothing: these are statements.
-use Rattle.std.specs.Prelude.{◌≡◌, ℕ, ◌<◌, ◌≤◌, true, List, [], ◌∷◌, ◌++◌, length, get_or, ◌+ℤ◌, ◌≤ℤ◌, slice_index_or}
+use Rattle.std.specs.Prelude.{◌≡◌, ℕ, ◌<◌, ◌≤◌, true, List, [], ◌∷◌, ◌++◌, length, slice_index_or, ◌+ℤ◌, ◌≤ℤ◌}
 use Rattle.venue.specs.Turn.{Turn}
 use Rattle.venue.specs.World.{Limits, Order, World, account, less_left, meets, need, no_order, traded}
 
@@ -13,6 +13,6 @@ PaidFor w os v os' =
 unfoldable pub TradePaidFor : Type 0
 TradePaidFor =
     (z : Limits) (w : World) (o : Order) (j x : ℕ) → Turn z w o → j < length w.orders → meets o (slice_index_or w.orders j no_order) ≡ true →
-    x ≤ o.left → x ≤ (get_or w.orders j no_order).left →
+    x ≤ o.left → x ≤ (slice_index_or w.orders j no_order).left →
     PaidFor w (w.orders ++ o ∷ []) (traded w o (slice_index_or w.orders j no_order) j x)
     ((traded w o (slice_index_or w.orders j no_order) j x).orders ++ less_left o x ∷ [])

@@ -1,6 +1,6 @@
 -- A market and its clearing house as plain lists: items with a price and a band, accounts with money and holdings, orders in the order in which they came.
 -- Assumes nothing: these are definitions.
-use Rattle.std.specs.Prelude.{ℕ, zero, suc, ◌+◌, ◌-◌, ◌*◌, Bool, true, false, not, ◌&&◌, ◌||◌, List, [], ◌∷◌, ◌++◌, length, get_or, replicate, ℤ, pos, ◌+ℤ◌, ◌-ℤ◌, ◌*ℤ◌, neg_ℤ, ◌==◌, int_le, int_lt, nat_le, nat_lt, slice_index_or, slice_set}
+use Rattle.std.specs.Prelude.{ℕ, zero, suc, ◌+◌, ◌-◌, ◌*◌, Bool, true, false, not, ◌&&◌, ◌||◌, List, [], ◌∷◌, ◌++◌, length, slice_index_or, replicate, ℤ, pos, ◌+ℤ◌, ◌-ℤ◌, ◌*ℤ◌, neg_ℤ, ◌==◌, int_le, int_lt, nat_le, nat_lt, slice_set}
 use Rattle.std.specs.Int.Signed.{mag}
 
 abbrev pub pick : {A : Type 0} → Bool → A → A → A
@@ -156,7 +156,7 @@ unfoldable pub best : Order → List Order → ℕ
 best o [] = 0
 best o (r ∷ rs) =
     pick (meets o r)
-    (pick (nat_lt (best o rs) (length rs) && better o (get_or rs (best o rs) no_order).price r.price) (suc (best o rs)) 0)
+    (pick (nat_lt (best o rs) (length rs) && better o (slice_index_or rs (best o rs) no_order).price r.price) (suc (best o rs)) 0)
     (suc (best o rs))
 
 unfoldable pub less_left : Order → ℕ → Order
@@ -181,7 +181,7 @@ matched (suc n) w o =
     pick (o.left == 0) (w, [])
     (pick (nat_le (length w.orders) (best o w.orders))
     (with_orders w (w.orders ++ o ∷ []), [])
-    (let r = get_or w.orders (best o w.orders) no_order in
+    (let r = slice_index_or w.orders (best o w.orders) no_order in
     let (v, rs) = matched n (traded w o r (best o w.orders) (lesser o.left r.left)) (less_left o (lesser o.left r.left)) in
     (v, trade o.number r.number o.item r.price (lesser o.left r.left) ∷ rs)))
 

@@ -1,7 +1,7 @@
 -- Reports in bytes: the kind, then its numbers; and a message's reports together, behind their number. Assumes nothing: these are definitions.
 use Rattle.std.specs.Prelude.{◌≡◌, ℕ, zero, suc, ◌+◌, ◌^◌, ◌<◌, ◌≤◌, List, [], ◌∷◌, ◌++◌, map, length, take, drop, ℤ, Some, None, Ok, Err, Option, Result, FitsSigned, ◌==◌, nat_le, slice_index}
 use Rattle.std.specs.Int.{w64}
-use Rattle.std.proofs.Common.{of_z, to_z}
+use Rattle.std.specs.Int.{cast_signed, cast_unsigned}
 use Rattle.std.specs.List.{flat_map}
 use Rattle.venue.specs.World as world
 use Rattle.venue.specs.World.{pick}
@@ -14,10 +14,10 @@ use Rattle.wire.specs.declared.report_rows.Unread.TheVariants.{Memory, NoReports
 
 -- a number with its sign in eight bytes, as two's complement
 abbrev pub signed : List ℕ → ℕ → ℤ
-signed bs i = to_z w64 (eight bs i)
+signed bs i = cast_signed w64 (eight bs i)
 
 unfoldable pub signed_of : ℤ → List ℕ
-signed_of z = eight_of (of_z w64 z)
+signed_of z = eight_of (cast_unsigned w64 z)
 
 -- the report of kind h that the bytes hold at place i, and its length
 abbrev pub reads_report_kind : ℕ → List ℕ → ℕ → Option (world.Report × ℕ)
