@@ -1,5 +1,5 @@
 -- One turn: a trade of the order being placed with a standing one, and how the turns end.
-use Rattle.std.proofs.Common.{◌≡◌, ℕ, ◌<◌, ◌≤◌, Bool, true, List, [], ◌∷◌, ◌++◌, length, get_or, sym, refl, ap, ◌∙◌, subst, arith}
+use Rattle.std.proofs.Common.{◌≡◌, ℕ, ◌<◌, ◌≤◌, Bool, true, List, [], ◌∷◌, ◌++◌, length, get_or, sym, ap, ◌∙◌, subst, arith, rules}
 use Rattle.std.specs.List.{AllByRecursion}
 use Rattle.std.proofs.ByRecursion.{All-get_or}
 use Rattle.venue.proofs.Covering.{paid_cover}
@@ -34,7 +34,7 @@ same_paid w v os ps qs f = f
 
 pub orders_traded : (w : World) (o r : Order) (j x : ℕ) → (traded w o r j x).orders ≡ taken j x w.orders
 unfolding gets with_account with_orders
-orders_traded w o r j x = ap (λ (v : World). v.orders) (traded_is w o r j x)
+orders_traded w o r j x = search (rules, traded_is)
 
 pub items_traded : (w : World) (o r : Order) (j x : ℕ) → (traded w o r j x).items ≡ w.items
 unfolding gets with_account with_orders
@@ -42,7 +42,7 @@ items_traded w o r j x = ap (λ (v : World). v.items) (traded_is w o r j x)
 
 pub many_traded : (w : World) (o r : Order) (j x : ℕ) → length (traded w o r j x).accounts ≡ length w.accounts
 unfolding with_orders
-many_traded w o r j x = ap (λ (v : World). length v.accounts) (traded_is w o r j x) ∙ many_gets _ _ _ _ _ ∙ many_gets _ _ _ _ _
+many_traded w o r j x = search (rules, traded_is, many_gets)
 
 -- o, the order being placed, trades x with the order in place j, which it meets
 module _ (z : Limits) (w : World) (o : Order) (j x : ℕ) (t : Turn z w o) (l : j < length w.orders)
@@ -58,8 +58,7 @@ module _ (z : Limits) (w : World) (o : Order) (j x : ℕ) (t : Turn z w o) (l : 
 
   fit : Fit w0 o r b
   unfolding with_orders
-  fit =
-      fit_meets w0 o r t.wide t.order (All-get_or (Placed (length w.accounts) w.items) w.orders j no_order l t.placed) m b refl
+  fit = search (rules, fit_meets, All-get_or)
 
   paid : PaidFor w (w.orders ++ o ∷ []) (two_get w0 o r x b) (taken j x w.orders ++ less_left o x ∷ [])
   paid =
@@ -69,9 +68,7 @@ module _ (z : Limits) (w : World) (o : Order) (j x : ℕ) (t : Turn z w o) (l : 
 
   -- nobody's need grows by more than that account's money
   pub trade_paid : PaidFor w (w.orders ++ o ∷ []) (traded w o r j x) ((traded w o r j x).orders ++ less_left o x ∷ [])
-  trade_paid =
-      subst (λ (ps : List Order). PaidFor w (w.orders ++ o ∷ []) (traded w o r j x) (ps ++ less_left o x ∷ [])) (sym (orders_traded w o r j x))
-      (subst (λ (v : World). PaidFor w (w.orders ++ o ∷ []) v (taken j x w.orders ++ less_left o x ∷ [])) (sym (traded_is w o r j x)) paid)
+  trade_paid = search (rules, orders_traded, traded_is, paid)
 
   -- and all holds that the next turn needs
   two_turn : Turn z (two_get w0 o r x b) (less_left o x)

@@ -1,5 +1,5 @@
 -- All cash, from what was said and reported.
-use Rattle.std.proofs.Common.{◌≡◌, ℕ, zero, suc, ◌+◌, ◌<◌, ◌≤◌, true, ◌&&◌, eqb, ltb, leb, List, [], ◌∷◌, length, pos, ◌-ℤ◌, ◌≤ℤ◌, refl, ap, ◌∙◌, arith}
+use Rattle.std.proofs.Common.{◌≡◌, ℕ, zero, suc, ◌+◌, ◌<◌, ◌≤◌, true, ◌&&◌, ltb, leb, List, [], ◌∷◌, length, pos, ◌-ℤ◌, ◌≤ℤ◌, refl, ap, arith, rules}
 use lib.Signed.{le_z}
 use Rattle.std.proofs.lemmas.Int.{ints}
 use Rattle.venue.proofs.Margins.{need_0}
@@ -11,9 +11,8 @@ use Rattle.venue.proofs.Totals.{cash_within}
 use Rattle.venue.proofs.Trades.{traded_is}
 use Rattle.venue.specs.Invariant.{Inv}
 use Rattle.venue.specs.Payment.{CashByReports, pays_in, pays_out, sum_taken, was_taken}
-use Rattle.venue.specs.Turn.{may_place}
-use Rattle.venue.specs.World.{Limits, Message, Order, Report, World, account, begin_day, best, cancel, counted, end_day, first, gets, kind, matched}
-use Rattle.venue.specs.World.{need, new_order, number_at, pay_in, pay_out, pick, place, prices_fit, reports, run, says, says_it, traded, with_account}
+use Rattle.venue.specs.World.{Limits, Message, Order, Report, World, account, begin_day, cancel, counted, end_day, first, gets, kind, matched}
+use Rattle.venue.specs.World.{need, pay_in, pay_out, pick, place, reports, run, says, says_it, traded, with_account}
 use Rattle.venue.specs.World.{with_money, with_orders}
 
 pub money_traded : (w : World) (o r : Order) (j x : ℕ) → (traded w o r j x).money ≡ w.money
@@ -23,10 +22,7 @@ money_traded w o r j x = ap (λ (v : World). v.money) (traded_is w o r j x)
 money_matched : (f : ℕ) (w : World) (o : Order) → (matched f w o).0.money ≡ w.money
 unfolding matched with_orders
 money_matched zero w o = refl
-money_matched (suc f) w o =
-    by_pick (λ (y : World × List Report). y.0.money ≡ w.money) (eqb o.left 0) _ _ (λ e. refl)
-    (λ e. by_pick (λ (y : World × List Report). y.0.money ≡ w.money) (leb (length w.orders) (best o w.orders)) _ _ (λ g. refl)
-    (λ g. money_matched f _ _ ∙ money_traded w o _ _ _))
+money_matched (suc f) w o = search (rules, money_matched f, money_traded)
 
 money_placed : (w : World) (o : Order) → (matched (suc (length w.orders)) (counted w) o).0.money ≡ w.money
 unfolding counted
@@ -44,8 +40,7 @@ Flows w m y =
 
 flows_it : (z : Limits) (w : World) (m : Message) → Inv z w → Flows w m (says_it z w m)
 unfolding says_it was_taken pays_in pays_out with_money with_orders
-flows_it z w (pay_in a x) i =
-    by_pick (Flows w (pay_in a x)) (ltb a (length w.accounts) && (leb 1 x && leb (w.money + x) z.money)) _ _ (λ e. omega arith) (λ e. omega arith)
+flows_it z w (pay_in a x) i = search rules
 flows_it z w (pay_out a x) i =
     by_pick (Flows w (pay_out a x))
     (ltb a (length w.accounts) && (leb 1 x && le_z (need w a w.orders) ((account w a).cash -ℤ pos x))) _ _
@@ -55,13 +50,9 @@ flows_it z w (pay_out a x) i =
     let l = out_within z w a x i h (omega (arith, ints)) in
     omega arith)
     (λ e. omega arith)
-flows_it z w (place a k s p q) i =
-    by_pick (Flows w (place a k s p q)) (may_place z w a k s p q) _ _
-    (λ e. omega (arith, money_placed w (new_order w a k s p q))) (λ e. omega arith)
-flows_it z w (cancel a n) i =
-    by_pick (Flows w (cancel a n)) (ltb (number_at a n w.orders) (length w.orders)) _ _ (λ e. omega arith) (λ e. omega arith)
-flows_it z w (end_day ps bs) i =
-    by_pick (Flows w (end_day ps bs)) (w.trading && prices_fit w.items ps bs) _ _ (λ e. omega arith) (λ e. omega arith)
+flows_it z w (place a k s p q) i = search (rules, by_pick, money_placed)
+flows_it z w (cancel a n) i = search rules
+flows_it z w (end_day ps bs) i = search rules
 flows_it z w begin_day i =
     by_pick (Flows w begin_day) w.trading _ _ (λ e. omega arith)
     (λ e. let t = tears_all z (length w.accounts) 0 w (omega arith) (record { inv = i; still = e }) in omega (arith, t.torn.money))
@@ -74,8 +65,7 @@ flows_run : (z : Limits) (w : World) (ms : List Message) → Inv z w →
     (run z w ms).money + sum_taken pays_out ms (reports z w ms) ≡ w.money + sum_taken pays_in ms (reports z w ms)
 unfolding run reports sum_taken
 flows_run z w [] i = refl
-flows_run z w (m ∷ ms) i =
-    let f = flows z w m i in let g = flows_run z (says z w m).0 ms (leads_says z w m i).inv in omega arith
+flows_run z w (m ∷ ms) i = search (rules, flows, leads_says, flows_run z (says z w m).0 ms (leads_says z w m i).inv)
 
 money_first : (z : Limits) (w : World) (ms : List Message) → Inv z w → w.money ≡ 0 → (run z w ms).money + sum_taken pays_out ms (reports z w ms)
     ≡ sum_taken pays_in ms (reports z w ms)

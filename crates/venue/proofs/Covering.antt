@@ -1,7 +1,7 @@
 -- One side of a trade: nobody's need grows by more than the money that comes with it.
-use Rattle.std.proofs.Common.{◌≡◌, ℕ, ◌+◌, ◌-◌, ◌*◌, ◌<◌, ◌≤◌, true, false, List, length, get_or, ℤ, pos, ◌+ℤ◌, ◌-ℤ◌, ◌*ℤ◌, neg_ℤ, ◌≤ℤ◌, sym, refl, ⊎_elim, arith}
+use Rattle.std.proofs.Common.{◌≡◌, ℕ, ◌+◌, ◌-◌, ◌*◌, ◌<◌, ◌≤◌, true, false, List, length, get_or, ℤ, pos, ◌+ℤ◌, ◌-ℤ◌, ◌*ℤ◌, neg_ℤ, ◌≤ℤ◌, ⊎_elim, arith, rules, zero-add}
 use Rattle.std.proofs.lemmas.Int.{ints}
-use Rattle.std.proofs.lemmas.Bool.{eq-eqb, cases_eq}
+use Rattle.std.proofs.lemmas.Bool.{cases_eq}
 use Rattle.venue.proofs.Gets.{account_other, account_same, after, cash_after, held_elsewhere, held_there, items_gets}
 use Rattle.venue.proofs.Losses.{bought, sold}
 use Rattle.venue.proofs.Margins.{need_less, need_mono, need_released, need_step}
@@ -42,11 +42,11 @@ paid_gets w a k x p os os' u ha hk hh f g c hc =
 -- what an order adds to its own account's losses in its own item
 own_buy : (u : Order) (i : Item) (j : ℕ) → is_buy u.side ≡ true → j ≡ u.item →
     (bw u.account j i u ≡ u.left * ((u.price + i.band) - i.price)) × (sw u.account j i u ≡ 0)
-own_buy u i j s e = let a = eq-eqb u.account u.account refl in let b = eq-eqb u.item j (sym e) in (rw (a, b, s), rw (a, b, s))
+own_buy u i j s e = search rules
 
 own_sell : (u : Order) (i : Item) (j : ℕ) → is_buy u.side ≡ false → j ≡ u.item →
     (bw u.account j i u ≡ 0) × (sw u.account j i u ≡ u.left * ((i.price + i.band) - u.price))
-own_sell u i j s e = let a = eq-eqb u.account u.account refl in let b = eq-eqb u.item j (sym e) in (rw (a, b, s), rw (a, b, s))
+own_sell u i j s e = search rules
 
 -- the buy order u is carried out for p
 pub paid_buy : (w : World) (u : Order) (p : ℕ) (os os' : List Order) → is_buy u.side ≡ true → u.account < length w.accounts →
@@ -54,18 +54,12 @@ pub paid_buy : (w : World) (u : Order) (p : ℕ) (os os' : List Order) → is_bu
     p ≤ (item w u.item).price + (item w u.item).band → PaidFor w os (gets w u.account u.item (pos u.left) p) os'
 unfolding need_in
 paid_buy w u p os os' s ha hk hh f q r =
-    paid_gets w a u.item (pos u.left) p os os' u ha hk hh f
+    paid_gets w u.account u.item (pos u.left) p os os' u ha hk hh f
     (λ j e.
-    let b : buys a j i os ≡ u.left * ((u.price + i.band) - i.price) + buys a j i os' =
-    omega (arith, buys_less os os' u f a j i, (own_buy u i j s e).0) in
-    let t : sells a j i os ≡ sells a j i os' = omega (arith, sells_less os os' u f a j i, (own_buy u i j s e).1) in
-    rw (b, t) (bought (held (account w a) j) u.left p u.price i.price i.band (buys a j i os') (sells a j i os') q r))
-  where
-    a : ℕ
-    a = u.account
-
-    i : Item
-    i = item w u.item
+    let i = item w u.item in
+    let o = own_buy u i j s e in
+    rw (buys_less os os' u f u.account j i, sells_less os os' u f u.account j i, o.0, o.1, zero-add)
+    (bought (held (account w u.account) j) u.left p u.price i.price i.band (buys u.account j i os') (sells u.account j i os') q r))
 
 -- the sell order u is carried out for p
 pub paid_sell : (w : World) (u : Order) (p : ℕ) (os os' : List Order) → is_buy u.side ≡ false → u.account < length w.accounts →
@@ -73,18 +67,12 @@ pub paid_sell : (w : World) (u : Order) (p : ℕ) (os os' : List Order) → is_b
     (item w u.item).price ≤ p + (item w u.item).band → PaidFor w os (gets w u.account u.item (neg_ℤ (pos u.left)) p) os'
 unfolding need_in
 paid_sell w u p os os' s ha hk hh f q r =
-    paid_gets w a u.item (neg_ℤ (pos u.left)) p os os' u ha hk hh f
+    paid_gets w u.account u.item (neg_ℤ (pos u.left)) p os os' u ha hk hh f
     (λ j e.
-    let b : buys a j i os ≡ buys a j i os' = omega (arith, buys_less os os' u f a j i, (own_sell u i j s e).0) in
-    let t : sells a j i os ≡ u.left * ((i.price + i.band) - u.price) + sells a j i os' =
-    omega (arith, sells_less os os' u f a j i, (own_sell u i j s e).1) in
-    rw (b, t) (sold (held (account w a) j) u.left p u.price i.price i.band (buys a j i os') (sells a j i os') q r))
-  where
-    a : ℕ
-    a = u.account
-
-    i : Item
-    i = item w u.item
+    let i = item w u.item in
+    let o = own_sell u i j s e in
+    rw (buys_less os os' u f u.account j i, sells_less os os' u f u.account j i, o.0, o.1, zero-add)
+    (sold (held (account w u.account) j) u.left p u.price i.price i.band (buys u.account j i os') (sells u.account j i os') q r))
 
 pub cover_less : (w : World) (os os' : List Order) →
     ((c k : ℕ) (i : Item) → (buys c k i os' ≤ buys c k i os) × (sells c k i os' ≤ sells c k i os)) → Cover w os → Cover w os'

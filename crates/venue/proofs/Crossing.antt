@@ -1,38 +1,23 @@
 -- Which orders meet, and that no two that stand do.
-use Rattle.std.proofs.Common.{◌≡◌, ℕ, suc, ◌<◌, ◌≤◌, true, false, ◌&&◌, ltb, List, [], ◌∷◌, ◌++◌, length, get_or, ap, arith}
+use Rattle.std.proofs.Common.{◌≡◌, ℕ, ◌<◌, ◌≤◌, true, false, List, [], ◌∷◌, ◌++◌, length, get_or, arith, rules}
 use Rattle.std.specs.List.{AllByRecursion}
 use Rattle.std.proofs.lemmas.Bool.Decides.{nat_tests}
 use Rattle.std.proofs.ByRecursion.{All-push, All-weaker}
 use Rattle.venue.proofs.Orders.{all_taken, all_without}
-use Rattle.venue.proofs.Picks.{by_pick}
 use Rattle.venue.specs.Invariant.{Calm, Uncrossed}
-use Rattle.venue.specs.World.{Order, best, better, crosses, is_buy, less_left, meets, no_order, other_side, taken, without}
+use Rattle.venue.specs.World.{Order, best, crosses, is_buy, less_left, meets, no_order, other_side, taken, without}
 
 -- the order in the place that `best` names meets o
 pub best_meets : (o : Order) (os : List Order) → best o os < length os → meets o (get_or os (best o os) no_order) ≡ true
 unfolding best
 best_meets o [] h = absurd (omega arith)
-best_meets o (r ∷ rs) h =
-    by_pick M (meets o r) _ _
-    (λ e. by_pick M (ltb (best o rs) (length rs) && better o (get_or rs (best o rs) no_order).price r.price) _ _
-    (λ t l. best_meets o rs (omega arith)) (λ t l. e))
-    (λ e l. best_meets o rs (omega arith)) h
-  where
-    M : ℕ → Type 0
-    M b = b < suc (length rs) → meets o (get_or (r ∷ rs) b no_order) ≡ true
+best_meets o (r ∷ rs) h = search (rules, best_meets o rs)
 
 -- if it names none, no order meets o
 pub best_none : (o : Order) (os : List Order) → length os ≤ best o os → AllByRecursion (λ (r : Order). meets o r ≡ false) os
 unfolding best
 best_none o [] h = tt
-best_none o (r ∷ rs) h =
-    by_pick M (meets o r) _ _
-    (λ e. by_pick M (ltb (best o rs) (length rs) && better o (get_or rs (best o rs) no_order).price r.price) _ _
-    (λ t l. let q : best o rs < length rs = grind arith in absurd (omega arith)) (λ t l. absurd (omega arith)))
-    (λ e l. (e, best_none o rs (omega arith))) h
-  where
-    M : ℕ → Type 0
-    M b = suc (length rs) ≤ b → (meets o r ≡ false) × AllByRecursion (λ (r : Order). meets o r ≡ false) rs
+best_none o (r ∷ rs) h = search (rules, best_none o rs)
 
 -- what it is for a buyer, and for a seller, to meet an order
 pub meets_buy : (o r : Order) → is_buy o.side ≡ true → meets o r ≡ true →
@@ -48,29 +33,21 @@ meets_sell o r s m = grind (arith, nat_tests)
 -- and what it is not to meet one
 unmet_buy : (o r : Order) → meets o r ≡ false → Uncrossed o r
 unfolding meets other_side crosses is_buy
-unmet_buy o r e b s q =
-    let eb : is_buy o.side ≡ true = ap is_buy b in let es : is_buy r.side ≡ false = ap is_buy s in grind (arith, nat_tests)
+unmet_buy o r e b s q = search rules
 
 unmet_sell : (o r : Order) → meets o r ≡ false → Uncrossed r o
 unfolding meets other_side crosses is_buy
-unmet_sell o r e b s q =
-    let eb : is_buy r.side ≡ true = ap is_buy b in let es : is_buy o.side ≡ false = ap is_buy s in grind (arith, nat_tests)
+unmet_sell o r e b s q = search rules
 
 self_uncrossed : (o : Order) → Uncrossed o o
-self_uncrossed o b s q = let z : ◌≡◌ {A = ℕ} 0 1 = cc in absurd (omega arith)
+self_uncrossed o b s q = absurd cc
 
 pub calm_taken : (j x : ℕ) (os : List Order) → Calm os → Calm (taken j x os)
 unfolding less_left
-calm_taken j x os f =
-    all_taken (λ (b : Order). AllByRecursion (Uncrossed b) (taken j x os)) (λ o y h l. h) j x os
-    (All-weaker (λ (b : Order). AllByRecursion (Uncrossed b) os) (λ (b : Order). AllByRecursion (Uncrossed b) (taken j x os))
-    (λ b h. all_taken (Uncrossed b) (λ o y q l. q) j x os h) os f)
+calm_taken j x os f = search (rules, all_taken, All-weaker)
 
 pub calm_without : (j : ℕ) (os : List Order) → Calm os → Calm (without j os)
-calm_without j os f =
-    all_without (λ (b : Order). AllByRecursion (Uncrossed b) (without j os)) j os
-    (All-weaker (λ (b : Order). AllByRecursion (Uncrossed b) os) (λ (b : Order). AllByRecursion (Uncrossed b) (without j os))
-    (λ b h. all_without (Uncrossed b) j os h) os f)
+calm_without j os f = search (rules, all_without, All-weaker)
 
 -- one more order, that meets none
 pub calm_push : (o : Order) (os : List Order) → AllByRecursion (λ (r : Order). meets o r ≡ false) os → Calm os → Calm (os ++ o ∷ [])

@@ -1,5 +1,5 @@
 -- The day's end, and its beginning.
-use Rattle.std.proofs.Common.{◌≡◌, ℕ, ◌+◌, ◌<◌, ◌≤◌, true, false, List, [], length, get_or, ℤ, pos, sym, refl, ap, ◌∙◌, subst, arith}
+use Rattle.std.proofs.Common.{◌≡◌, ℕ, ◌+◌, ◌<◌, ◌≤◌, true, false, List, [], length, get_or, ℤ, pos, sym, refl, ap, ◌∙◌, subst, arith, rules}
 use Rattle.std.specs.List.{AllByRecursion}
 use Rattle.std.proofs.lemmas.Int.{ints}
 use Rattle.std.proofs.ByRecursion.{All-from_get_or}
@@ -68,26 +68,6 @@ leads_begin_day z w i s =
     let g : Tearing z w = record { inv = i; still = s } in
     let r = tears_all z (length w.accounts) 0 w (omega arith) g in
     let d = covered_all z (length w.accounts) 0 w (omega arith) g (λ c l. absurd (omega arith)) in
-    let n = r.torn.accounts in
     let j = r.tearing.inv in
-    record {
-      inv = record {
-        wide = j.wide;
-        placed = j.placed;
-        left = j.left;
-        numbers = j.numbers;
-        cash = j.cash;
-        held = j.held;
-        rich = j.rich;
-        cover = λ e. subst (Cover v) (sym (j.empty r.tearing.still)) (λ c l. d c (omega arith));
-        empty = λ e. absurd (both_ways true e refl);
-        calm = j.calm;
-        items = j.items;
-        holds = j.holds;
-        few = j.few;
-        money = j.money;
-        next = j.next;
-      };
-      items = ap length r.torn.items;
-      accounts = n;
-    }
+    let c : Cover v v.orders = subst (Cover v) (sym (j.empty r.tearing.still)) (λ c l. d c (omega arith)) in
+    record { inv = search (rules, c); items = ap length r.torn.items; accounts = r.torn.accounts }

@@ -1,5 +1,5 @@
 -- What account a's orders in an item lose at both ends of the band.
-use Rattle.std.proofs.Common.{◌≡◌, ℕ, ◌+◌, ◌≤◌, eqb, List, [], ◌∷◌, pos, ◌≤ℤ◌, refl, arith}
+use Rattle.std.proofs.Common.{◌≡◌, ℕ, ◌+◌, ◌≤◌, eqb, List, [], ◌∷◌, pos, ◌≤ℤ◌, refl, arith, rules}
 use Rattle.std.specs.List.{AllByRecursion}
 use Rattle.std.proofs.lemmas.Int.{ints}
 use Rattle.std.proofs.lemmas.Bool.{eqb-true}
@@ -37,18 +37,10 @@ module _ (a k : ℕ) (i : Item) (y : Course) where
       AllByRecursion (Banded k i) os → lost_by a k y (low i.price i.band) os ≡ pos (buys a k i os)
   unfolding lost_by buys
   low_is [] f g b = refl
-  low_is (o ∷ os) f g b =
-      let r = low_is os f g b.1 in
-      let q = order_low_is (eqb o.account a) (eqb o.item k) o.side (y.much o) o.left o.price i.price i.band
-      (λ e. f o (eqb-true o.item k e)) (λ e. (b.0 (eqb-true o.item k e)).0) in
-      rw (g o) (omega (arith, ints))
+  low_is (o ∷ os) f g b = search (rules, order_low_is, low_is os f g b.1)
 
   pub high_is : (os : List Order) → ((o : Order) → o.item ≡ k → y.much o ≡ pick (is_buy o.side) 0 o.left) → ((o : Order) → y.at o ≡ o.price) →
       AllByRecursion (Banded k i) os → lost_by a k y (high i.price i.band) os ≡ pos (sells a k i os)
   unfolding lost_by sells
   high_is [] f g b = refl
-  high_is (o ∷ os) f g b =
-      let r = high_is os f g b.1 in
-      let q = order_high_is (eqb o.account a) (eqb o.item k) o.side (y.much o) o.left o.price i.price i.band
-      (λ e. f o (eqb-true o.item k e)) (λ e. (b.0 (eqb-true o.item k e)).1) in
-      rw (g o) (omega (arith, ints))
+  high_is (o ∷ os) f g b = search (rules, order_high_is, high_is os f g b.1)

@@ -1,8 +1,7 @@
 -- The day's end: gains and losses cancel out, holdings stay, and the new items are as they should be.
-use Rattle.std.proofs.Common.{◌≡◌, ℕ, zero, suc, ◌<◌, true, List, [], ◌∷◌, length, get_or, ℤ, pos, ◌+ℤ◌, ◌-ℤ◌, ◌*ℤ◌, refl, ap, arith}
+use Rattle.std.proofs.Common.{◌≡◌, ℕ, suc, ◌<◌, true, List, [], ◌∷◌, length, get_or, ℤ, pos, ◌+ℤ◌, ◌-ℤ◌, ◌*ℤ◌, refl, ap, arith, rules}
 use Rattle.std.specs.List.{AllByRecursion}
 use Rattle.std.proofs.lemmas.Int.{ints}
-use Rattle.std.proofs.lemmas.Bool.Decides.{nat_tests}
 use Rattle.venue.proofs.Ints.{dist_r}
 use Rattle.venue.specs.Invariant.{Wide}
 use Rattle.venue.specs.Promise.{SoundItems, all_cash, all_held}
@@ -16,19 +15,14 @@ all_gain k (i ∷ is) (p ∷ ps) xs = (all_held k xs *ℤ (pos p -ℤ pos i.pric
 
 gain_none : (k : ℕ) (is : List Item) (ps : List ℕ) → all_gain k is ps [] ≡ pos 0
 unfolding all_gain all_held
-gain_none k [] ps = refl
-gain_none k (i ∷ is) [] = refl
-gain_none k (i ∷ is) (p ∷ ps) = let e = gain_none (suc k) is ps in omega (arith, ints)
+gain_none k (i ∷ is) (p ∷ ps) = search (rules, gain_none (suc k) is ps)
+gain_none k is ps = search rules
 
 gain_more : (k : ℕ) (is : List Item) (ps : List ℕ) (x : Account) (xs : List Account) →
     all_gain k is ps (x ∷ xs) ≡ gain k is ps x +ℤ all_gain k is ps xs
 unfolding all_gain gain all_held
-gain_more k [] ps x xs = refl
-gain_more k (i ∷ is) [] x xs = refl
-gain_more k (i ∷ is) (p ∷ ps) x xs =
-    let e = gain_more (suc k) is ps x xs in
-    let d = dist_r (held x k) (all_held k xs) (pos p -ℤ pos i.price) in
-    omega (arith, ints)
+gain_more k (i ∷ is) (p ∷ ps) x xs = omega (arith, ints, gain_more (suc k) is ps x xs, dist_r (held x k) (all_held k xs) (pos p -ℤ pos i.price))
+gain_more k is ps x xs = search rules
 
 cash_gained : (is : List Item) (ps : List ℕ) (xs : List Account) → all_cash (paid is ps xs) ≡ all_cash xs +ℤ all_gain 0 is ps xs
 unfolding paid all_cash
@@ -37,9 +31,8 @@ cash_gained is ps (x ∷ xs) = let e = cash_gained is ps xs in rw gain_more (ome
 
 gain_even : (k : ℕ) (is : List Item) (ps : List ℕ) (xs : List Account) → ((j : ℕ) → all_held j xs ≡ pos 0) → all_gain k is ps xs ≡ pos 0
 unfolding all_gain
-gain_even k [] ps xs h = refl
-gain_even k (i ∷ is) [] xs h = refl
-gain_even k (i ∷ is) (p ∷ ps) xs h = let e = gain_even (suc k) is ps xs h in rw (h k) (omega (arith, ints))
+gain_even k (i ∷ is) (p ∷ ps) xs h = search (rules, gain_even (suc k) is ps xs h)
+gain_even k is ps xs e = search rules
 
 -- of each item as much is owed as owned, so all gains together are 0
 pub cash_paid : (is : List Item) (ps : List ℕ) (xs : List Account) → ((j : ℕ) → all_held j xs ≡ pos 0) → all_cash (paid is ps xs) ≡ all_cash xs
@@ -62,33 +55,21 @@ wide_paid n is ps (x ∷ xs) f = (f.0, wide_paid n is ps xs f.1)
 
 pub holds_paid : (is : List Item) (ps : List ℕ) (xs : List Account) (a : ℕ) → (get_or (paid is ps xs) a nobody).holds ≡ (get_or xs a nobody).holds
 unfolding paid
-holds_paid is ps [] a = refl
-holds_paid is ps (x ∷ xs) zero = refl
 holds_paid is ps (x ∷ xs) (suc a) = holds_paid is ps xs a
+holds_paid is ps xs a = search rules
 
 pub cash_of_paid : (is : List Item) (ps : List ℕ) (xs : List Account) (a : ℕ) → a < length xs →
     (get_or (paid is ps xs) a nobody).cash ≡ (get_or xs a nobody).cash +ℤ gain 0 is ps (get_or xs a nobody)
 unfolding paid
-cash_of_paid is ps [] a h = absurd (omega arith)
-cash_of_paid is ps (x ∷ xs) zero h = refl
 cash_of_paid is ps (x ∷ xs) (suc a) h = cash_of_paid is ps xs a (omega arith)
+cash_of_paid is ps xs a h = search rules
 
 pub new_many : (is : List Item) (ps bs : List ℕ) → prices_fit is ps bs ≡ true → length (new_items ps bs) ≡ length is
 unfolding prices_fit new_items
-new_many [] [] [] e = refl
-new_many [] [] (b ∷ bs) e = refl
-new_many [] (p ∷ ps) [] e = refl
-new_many [] (p ∷ ps) (b ∷ bs) e = cc
-new_many (i ∷ is) [] bs e = cc
-new_many (i ∷ is) (p ∷ ps) [] e = cc
-new_many (i ∷ is) (p ∷ ps) (b ∷ bs) e = let t : prices_fit is ps bs ≡ true = grind arith in ap suc (new_many is ps bs t)
+new_many (i ∷ is) (p ∷ ps) (b ∷ bs) e = search (rules, new_many is ps bs)
+new_many is ps bs e = search rules
 
 pub new_sound : (is : List Item) (ps bs : List ℕ) → prices_fit is ps bs ≡ true → SoundItems (new_items ps bs)
 unfolding prices_fit new_items SoundItems
-new_sound [] [] bs e k h = absurd (omega arith)
-new_sound [] (p ∷ ps) [] e k h = absurd (omega arith)
-new_sound [] (p ∷ ps) (b ∷ bs) e k h = absurd (let z : ◌≡◌ {A = ℕ} 0 1 = cc in omega arith)
-new_sound (i ∷ is) [] bs e k h = absurd (omega arith)
-new_sound (i ∷ is) (p ∷ ps) [] e k h = absurd (omega arith)
-new_sound (i ∷ is) (p ∷ ps) (b ∷ bs) e zero h = grind (arith, nat_tests)
-new_sound (i ∷ is) (p ∷ ps) (b ∷ bs) e (suc k) h = let t : prices_fit is ps bs ≡ true = grind arith in new_sound is ps bs t k (omega arith)
+new_sound (i ∷ is) (p ∷ ps) (b ∷ bs) e (suc k) h = search (rules, new_sound is ps bs)
+new_sound is ps bs e k h = search rules

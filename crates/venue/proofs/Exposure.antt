@@ -1,12 +1,12 @@
 -- What an account loses in one item: never more than it needs there, and in the worst case just that.
-use Rattle.std.proofs.Common.{◌≡◌, ℕ, ◌≤◌, true, false, ◌&&◌, eqb, List, [], ◌∷◌, ℤ, pos, ◌+ℤ◌, ◌-ℤ◌, ◌*ℤ◌, neg_ℤ, ◌≤ℤ◌, sym, ap, ◌∙◌, arith}
+use Rattle.std.proofs.Common.{◌≡◌, ℕ, ◌≤◌, true, false, ◌&&◌, eqb, List, [], ◌∷◌, ℤ, pos, ◌+ℤ◌, ◌-ℤ◌, ◌*ℤ◌, neg_ℤ, ◌≤ℤ◌, arith, rules}
 use lib.Signed.{lt_z}
 use Rattle.std.specs.List.{AllByRecursion}
 use Rattle.std.proofs.lemmas.Int.{ints}
-use Rattle.venue.proofs.Ints.{dist_r, neg_r}
+use Rattle.venue.proofs.Ints.{dist_r}
 use Rattle.venue.proofs.Picks.{larger_left, larger_right, larger_within}
 use Rattle.venue.proofs.Worst.{high, low, no_worse, rate, rate_held, rate_order}
-use Rattle.venue.specs.Loss.{Course, lost, lost_by}
+use Rattle.venue.specs.Loss.{Course, lost_by}
 use Rattle.venue.specs.Priority.{AsGood}
 use Rattle.venue.specs.Settlement.{InBand}
 use Rattle.venue.specs.World.{Item, Order, buys, is_buy, larger, need_in, pick, sells}
@@ -14,10 +14,7 @@ use Rattle.venue.proofs.Ends.{Banded, high_is, lost_high, lost_low, low_is}
 
 -- two rates together
 add_rates : (l m l' m' r r' d : ℤ) → l ≡ m +ℤ (r *ℤ d) → l' ≡ m' +ℤ (r' *ℤ d) → l +ℤ l' ≡ (m +ℤ m') +ℤ ((r +ℤ r') *ℤ d)
-add_rates l m l' m' r r' d e f = linear (r *ℤ d) (r' *ℤ d) ((r +ℤ r') *ℤ d) e f (dist_r r r' d)
-  where
-    linear : (a b c : ℤ) → l ≡ m +ℤ a → l' ≡ m' +ℤ b → c ≡ a +ℤ b → l +ℤ l' ≡ (m +ℤ m') +ℤ c
-    linear a b c e f g = omega (arith, ints)
+add_rates l m l' m' r r' d e f = omega (arith, ints, dist_r r r' d)
 
 sum_is : {a b c d : ℤ} → a ≡ b → c ≡ d → a +ℤ c ≡ b +ℤ d
 sum_is e f = cc
@@ -39,33 +36,21 @@ module _ (a k : ℕ) (i : Item) (y : Course) where
   rates_are : (os : List Order) (p q : ℤ) → lost_by a k y q os ≡ lost_by a k y p os +ℤ (rates os *ℤ (q -ℤ p))
   unfolding lost_by rates
   rates_are [] p q = omega (arith, ints)
-  rates_are (o ∷ os) p q =
-      let b = eqb o.account a && eqb o.item k in
-      add_rates (pick b (lost o.side (y.much o) (y.at o) q) (pos 0)) (pick b (lost o.side (y.much o) (y.at o) p) (pos 0))
-      (lost_by a k y q os) (lost_by a k y p os) (pick b (rate o.side (y.much o)) (pos 0)) (rates os) (q -ℤ p)
-      (rate_order b o.side (y.much o) (y.at o) p q) (rates_are os p q)
+  rates_are (o ∷ os) p q = search (rules, add_rates, rate_order, rates_are os p q)
 
   -- what is lost in the item when the day ends at p
   abbrev pub loss : ℤ → ℤ → List Order → ℤ
   loss h p os = (h *ℤ (pos i.price -ℤ p)) +ℤ lost_by a k y p os
 
   loss_rate : (h : ℤ) (os : List Order) (p q : ℤ) → loss h q os ≡ loss h p os +ℤ ((neg_ℤ h +ℤ rates os) *ℤ (q -ℤ p))
-  loss_rate h os p q =
-      add_rates (h *ℤ (pos i.price -ℤ q)) (h *ℤ (pos i.price -ℤ p)) (lost_by a k y q os) (lost_by a k y p os) (neg_ℤ h) (rates os) (q -ℤ p)
-      (rate_held h (pos i.price) p q) (rates_are os p q)
+  loss_rate h os p q = search (rules, add_rates, rate_held, rates_are)
 
   -- a holding's loss at both ends
   held_low : (h : ℤ) → h *ℤ (pos i.price -ℤ low i.price i.band) ≡ h *ℤ pos i.band
-  held_low h = ap (λ (z : ℤ). h *ℤ z) (plain i.price i.band)
-    where
-      plain : (P B : ℕ) → pos P -ℤ low P B ≡ pos B
-      plain P B = omega (arith, ints)
+  held_low h = search rules
 
   held_high : (h : ℤ) → h *ℤ (pos i.price -ℤ high i.price i.band) ≡ neg_ℤ (h *ℤ pos i.band)
-  held_high h = ap (λ (z : ℤ). h *ℤ z) (plain i.price i.band) ∙ neg_r h (pos i.band)
-    where
-      plain : (P B : ℕ) → pos P -ℤ high P B ≡ neg_ℤ (pos B)
-      plain P B = omega (arith, ints)
+  held_high h = grind (arith, ints)
 
   pub item_enough : (h : ℤ) (p : ℕ) (os : List Order) → ((o : Order) → y.much o ≤ o.left) → ((o : Order) → AsGood o.side (y.at o) o.price) →
       AllByRecursion (Banded k i) os → InBand i p → loss h (pos p) os ≤ℤ need_in a k i h os
@@ -90,15 +75,11 @@ module _ (a k : ℕ) (i : Item) (y : Course) where
       lt_z ((h *ℤ pos i.band) +ℤ pos (buys a k i os)) (neg_ℤ (h *ℤ pos i.band) +ℤ pos (sells a k i os)) ≡ true →
       loss h (high i.price i.band) os ≡ need_in a k i h os
   unfolding need_in
-  reached_high h os f g b t =
-      sum_is (held_high h) (high_is a k i y os f g b)
-      ∙ sym (larger_second ((h *ℤ pos i.band) +ℤ pos (buys a k i os)) (neg_ℤ (h *ℤ pos i.band) +ℤ pos (sells a k i os)) t)
+  reached_high h os f g b t = search (rules, held_high, high_is, larger_second)
 
   pub reached_low : (h : ℤ) (os : List Order) → ((o : Order) → o.item ≡ k → y.much o ≡ pick (is_buy o.side) o.left 0) →
       ((o : Order) → y.at o ≡ o.price) → AllByRecursion (Banded k i) os →
       lt_z ((h *ℤ pos i.band) +ℤ pos (buys a k i os)) (neg_ℤ (h *ℤ pos i.band) +ℤ pos (sells a k i os)) ≡ false →
       loss h (low i.price i.band) os ≡ need_in a k i h os
   unfolding need_in
-  reached_low h os f g b t =
-      sum_is (held_low h) (low_is a k i y os f g b)
-      ∙ sym (larger_first ((h *ℤ pos i.band) +ℤ pos (buys a k i os)) (neg_ℤ (h *ℤ pos i.band) +ℤ pos (sells a k i os)) t)
+  reached_low h os f g b t = search (rules, sum_is, low_is, larger_first)

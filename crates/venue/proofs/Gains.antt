@@ -1,5 +1,5 @@
 -- What an account loses by the day's end is at most what it needed.
-use Rattle.std.proofs.Common.{◌≡◌, ℕ, suc, ◌+◌, ◌*◌, ◌≤◌, true, List, [], ◌∷◌, ℤ, pos, negsuc, ◌+ℤ◌, ◌-ℤ◌, ◌*ℤ◌, neg_ℤ, ◌≤ℤ◌, refl, ap, mul-le-mul_left, arith}
+use Rattle.std.proofs.Common.{◌≡◌, ℕ, suc, ◌+◌, ◌*◌, ◌≤◌, true, List, ◌∷◌, ℤ, pos, negsuc, ◌+ℤ◌, ◌-ℤ◌, ◌*ℤ◌, neg_ℤ, ◌≤ℤ◌, refl, ap, mul-le-mul_left, arith, rules}
 use Rattle.std.proofs.lemmas.Int.{ints}
 use Rattle.std.proofs.lemmas.Bool.Decides.{nat_tests}
 use Rattle.venue.proofs.Ints.{times_diff, times_diff_neg}
@@ -28,12 +28,8 @@ gain_in c k i (negsuc a) os p f g =
 pub gain_from : (c k : ℕ) (is : List Item) (ps bs : List ℕ) (x : Account) (os : List Order) → prices_fit is ps bs ≡ true →
     pos 0 ≤ℤ (need_from c k is x os +ℤ gain k is ps x)
 unfolding need_from gain prices_fit
-gain_from c k [] ps bs x os e = omega (arith, ints)
-gain_from c k (i ∷ is) [] bs x os e = absurd (let z : ◌≡◌ {A = ℕ} 0 1 = cc in omega arith)
-gain_from c k (i ∷ is) (p ∷ ps) [] x os e = absurd (let z : ◌≡◌ {A = ℕ} 0 1 = cc in omega arith)
 gain_from c k (i ∷ is) (p ∷ ps) (b ∷ bs) x os e =
     let t : prices_fit is ps bs ≡ true = grind arith in
     let f : (i.price ≤ p + i.band) × (p ≤ i.price + i.band) = grind (arith, nat_tests) in
-    let r = gain_from c (suc k) is ps bs x os t in
-    let q = gain_in c k i (held x k) os p f.0 f.1 in
-    omega (arith, ints, q, r)
+    omega (arith, ints, gain_in c k i (held x k) os p f.0 f.1, gain_from c (suc k) is ps bs x os t)
+gain_from c k is ps bs x os e = search rules

@@ -1,11 +1,11 @@
 -- What one account has, and all together have, after it got some of an item.
-use Rattle.std.proofs.Common.{◌≡◌, ℕ, ◌<◌, eqb, ◌≢◌, length, set, ℤ, pos, ◌+ℤ◌, ◌-ℤ◌, ◌*ℤ◌, refl, arith}
+use Rattle.std.proofs.Common.{◌≡◌, ℕ, ◌<◌, eqb, ◌≢◌, length, set, ℤ, pos, ◌+ℤ◌, ◌-ℤ◌, ◌*ℤ◌, refl, arith, rules}
+use Rattle.std.proofs.lemmas.Grind.{common_steps}
 use Rattle.std.specs.List.{AllByRecursion}
 use Rattle.std.proofs.lemmas.Int.{ints}
-use Rattle.std.proofs.ByRecursion.{All-get_or, All-set}
-use Rattle.std.proofs.lemmas.Bool.{eqb-true, eqb-false, eq-eqb, ne_eqb}
+use Rattle.std.proofs.ByRecursion.{All-get_or}
+use Rattle.std.proofs.lemmas.Bool.{eq-eqb}
 use Rattle.std.proofs.lemmas.List.{length-set, get_or-set_same, get_or-set_other}
-use Rattle.venue.proofs.Picks.{by_pick}
 use Rattle.venue.proofs.Totals.{cash_set, held_set}
 use Rattle.venue.specs.Invariant.{Wide}
 use Rattle.venue.specs.Promise.{all_cash, all_held}
@@ -27,10 +27,7 @@ cash_after w a k x p = refl
 held_after : (w : World) (a k : ℕ) (x : ℤ) (p j : ℕ) → k < length (account w a).holds →
     held (after w a k x p) j ≡ held (account w a) j +ℤ pick (eqb j k) x (pos 0)
 unfolding after held
-held_after w a k x p j h =
-    by_pick (λ (z : ℤ). held (after w a k x p) j ≡ held (account w a) j +ℤ z) (eqb j k) x (pos 0)
-    (λ e. let d = eqb-true j k e in simp (d, get_or-set_same))
-    (λ e. let d : j ≢ k = eqb-false j k e in simp get_or-set_other (omega (arith, ints)))
+held_after w a k x p j h = search rules
 
 pub held_there : (w : World) (a k : ℕ) (x : ℤ) (p j : ℕ) → k < length (account w a).holds → j ≡ k →
     held (after w a k x p) j ≡ held (account w a) j +ℤ x
@@ -38,8 +35,7 @@ held_there w a k x p j h e = let d = held_after w a k x p j h in let t = eq-eqb 
 
 pub held_elsewhere : (w : World) (a k : ℕ) (x : ℤ) (p j : ℕ) → k < length (account w a).holds → j ≢ k →
     held (after w a k x p) j ≡ held (account w a) j
-held_elsewhere w a k x p j h e =
-    let d = held_after w a k x p j h in let t = ne_eqb j k e in let r = rw t at d in omega (arith, ints)
+held_elsewhere w a k x p j h e = search (rules, held_after)
 
 pub account_same : (w : World) (a k : ℕ) (x : ℤ) (p : ℕ) → a < length w.accounts → account (gets w a k x p) a ≡ after w a k x p
 unfolding gets with_account account after
@@ -68,8 +64,7 @@ wide_at n w a h f = All-get_or (Wide n) w.accounts a nobody h f
 pub wide_gets : (n : ℕ) (w : World) (a k : ℕ) (x : ℤ) (p : ℕ) → a < length w.accounts → AllByRecursion (Wide n) w.accounts →
     AllByRecursion (Wide n) (gets w a k x p).accounts
 unfolding gets with_account account
-wide_gets n w a k x p h f =
-    All-set (Wide n) w.accounts a _ (simp length-set (All-get_or (Wide n) w.accounts a nobody h f)) f
+wide_gets n w a k x p h f = grind (arith, common_steps)
 
 -- all cash, and all that is held of an item
 pub cash_gets : (w : World) (a k : ℕ) (x : ℤ) (p : ℕ) → a < length w.accounts →

@@ -1,8 +1,8 @@
 -- Of how many items accounts hold or owe something: each tear-up leaves at least one fewer.
-use Rattle.std.proofs.Common.{◌≡◌, ℕ, zero, suc, ◌+◌, ◌*◌, ◌<◌, ◌≤◌, min, true, List, length, get_or, set, ℤ, pos, negsuc, ◌+ℤ◌, ◌-ℤ◌, ◌*ℤ◌, neg_ℤ, sum_by, sym, refl, subst, arith}
+use Rattle.std.proofs.Common.{◌≡◌, ℕ, zero, suc, ◌+◌, ◌*◌, ◌<◌, ◌≤◌, min, true, List, length, get_or, ℤ, pos, negsuc, ◌+ℤ◌, neg_ℤ, sum_by, sym, subst, arith, rules}
+use Rattle.std.proofs.lemmas.Int.{ints}
 use borrow.Author.Differences.{up, down}
 use Rattle.std.specs.List.{AllByRecursion}
-use Rattle.std.proofs.lemmas.Bool.Decides.{nat_tests}
 use Rattle.std.proofs.lemmas.List.Sums.{sum_by-set}
 use Rattle.std.proofs.ByRecursion.{sum_by_le, All-from_get_or, All-weaker}
 use Rattle.venue.proofs.Gets.{account_other, many_gets, wide_at, wide_gets}
@@ -10,7 +10,7 @@ use Rattle.venue.proofs.Opposites.{NotAgainst, TornBy, tear_by}
 use Rattle.venue.proofs.TearUp.{amount, opposite_apart, torn_step}
 use Rattle.venue.specs.Invariant.{Wide}
 use Rattle.venue.specs.Tearing.{Nearer, Tearing}
-use Rattle.venue.specs.World.{Account, Limits, World, account, gets, held, item, nobody, opposite, with_account}
+use Rattle.venue.specs.World.{Account, Limits, World, account, gets, held, item, opposite, with_account}
 
 -- whether something is held or owed
 pub filled : ℤ → ℕ
@@ -27,44 +27,22 @@ all_holdings w = sum_by holdings w.accounts
 
 filled_is : (h : ℤ) → filled h ≡ min 1 (up h + down h)
 unfolding filled
-filled_is (pos zero) = refl
-filled_is (pos (suc a)) = omega arith
-filled_is (negsuc a) = omega arith
+filled_is h = grind (arith, ints)
 
 -- one account gets x of item k
 holdings_gets : (w : World) (a k : ℕ) (x : ℤ) (p : ℕ) → a < length w.accounts → k < length (account w a).holds →
     all_holdings (gets w a k x p) + filled (held (account w a) k) ≡ all_holdings w + filled (held (account w a) k +ℤ x)
 unfolding gets with_account account held
-holdings_gets w a k x p h l =
-    omega (
-      arith,
-      sum_by-set holdings w.accounts a (record {
-        cash = (account w a).cash -ℤ (x *ℤ (pos p -ℤ pos (item w k).price));
-        holds = set (account w a).holds k (held (account w a) k +ℤ x);
-      }) nobody h,
-      sum_by-set filled (account w a).holds k (held (account w a) k +ℤ x) (pos 0) l,
-    )
-
-at_most_one : (x y : ℕ) → (1 ≤ x → 1 ≤ y → ⊥) → min 1 x + min 1 y ≤ 1
-at_most_one zero y f = omega arith
-at_most_one (suc x) zero f = omega arith
-at_most_one (suc x) (suc y) f = absurd (f (omega arith) (omega arith))
+holdings_gets w a k x p h l = search (rules, sum_by-set)
 
 one_less_filled : (h g h' g' : ℤ) → opposite h g ≡ true → Nearer h h' → Nearer g g' → NotAgainst h' g' →
     suc (min 1 (up h' + down h') + min 1 (up g' + down g')) ≤ min 1 (up h + down h) + min 1 (up g + down g)
 unfolding opposite
-one_less_filled (pos a) (pos b) h' g' e m n f = absurd (grind (arith, nat_tests))
-one_less_filled (pos a) (negsuc b) h' g' e m n f =
-    let q : 1 ≤ a = grind (arith, nat_tests) in omega (arith, at_most_one (up h') (down g') f.0)
-one_less_filled (negsuc a) (pos b) h' g' e m n f =
-    let q : 1 ≤ b = grind (arith, nat_tests) in omega (arith, at_most_one (down h') (up g') f.1)
-one_less_filled (negsuc a) (negsuc b) h' g' e m n f = absurd (grind (arith, nat_tests))
+one_less_filled h g h' g' e f l m = search rules
 
 -- of two opposite holdings at least one is gone
 one_gone : (h g s : ℤ) → opposite h g ≡ true → TornBy h g s → suc (filled (h +ℤ neg_ℤ s) + filled (g +ℤ s)) ≤ filled h + filled g
-one_gone h g s e t =
-    rw (filled_is h, filled_is g, filled_is (h +ℤ neg_ℤ s), filled_is (g +ℤ s))
-    (one_less_filled h g (h +ℤ neg_ℤ s) (g +ℤ s) e t.one t.two t.apart)
+one_gone h g s e t = search (rules, filled_is, one_less_filled)
 
 -- so a step leaves at least one holding fewer
 pub step_holdings : (z : Limits) (w : World) (a b k : ℕ) → Tearing z w → a < length w.accounts → b < length w.accounts → k < length w.items →
@@ -91,6 +69,4 @@ filled_le hs =
 
 -- no more than accounts and items
 pub holdings_le : (n : ℕ) (w : World) → AllByRecursion (Wide n) w.accounts → all_holdings w ≤ length w.accounts * n
-holdings_le n w f =
-    sum_by_le holdings n w.accounts
-    (All-weaker (Wide n) (λ (x : Account). holdings x ≤ n) (λ x h. omega (arith, filled_le x.holds)) w.accounts f)
+holdings_le n w f = search (rules, sum_by_le, All-weaker, filled_le)

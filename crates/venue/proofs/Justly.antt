@@ -1,5 +1,5 @@
 -- Who is torn up in the morning, and the morning as a whole.
-use Rattle.std.proofs.Common.{◌≡◌, ℕ, zero, suc, ◌+◌, ◌<◌, ◌≤◌, Bool, true, false, ◌≢◌, List, [], ◌∷◌, ◌++◌, length, ℤ, ◌≤ℤ◌, ◌<ℤ◌, refl, subst, inl, inr, arith}
+use Rattle.std.proofs.Common.{◌≡◌, ℕ, zero, suc, ◌+◌, ◌<◌, ◌≤◌, Bool, true, false, ◌≢◌, List, [], ◌∷◌, ◌++◌, length, ℤ, ◌≤ℤ◌, ◌<ℤ◌, refl, subst, inl, inr, arith, rules}
 use Rattle.std.specs.List.{AllByRecursion}
 use Rattle.std.proofs.lemmas.Int.{ints}
 use Rattle.std.proofs.ByRecursion.{All-append}
@@ -13,7 +13,7 @@ use Rattle.venue.proofs.Sounds.{sound_inv}
 use Rattle.venue.proofs.TearAll.{tears_all, tears_items, zero_items}
 use Rattle.venue.specs.Morning.{Begun, DayBegins, Justly, tears_up}
 use Rattle.venue.specs.Tearing.{Nearer, Tearing}
-use Rattle.venue.specs.World.{Limits, Report, World, account, covered, done, held, kind, need, no, opposite, says, says_it, tear, tear_all}
+use Rattle.venue.specs.World.{Limits, Report, World, account, covered, done, held, kind, need, no, says, says_it, tear, tear_all}
 use Rattle.venue.specs.World.{tear_items}
 
 -- no report says that c is torn up
@@ -23,9 +23,7 @@ Spared c rs = AllByRecursion (λ (r : Report). tears_up c r ≡ false) rs
 spared_tear : (c f b a k : ℕ) (w : World) → a ≢ c → Spared c (tear f b a k w).1
 unfolding tear tears_up
 spared_tear c zero b a k w n = tt
-spared_tear c (suc f) b a k w n =
-    by_pick (λ (y : World × List Report). Spared c y.1) (opposite (held (account w a) k) (held (account w b) k)) _ _
-    (λ e. (ne_eqb a c n, spared_tear c f (suc b) a k _ n)) (λ e. spared_tear c f (suc b) a k w n)
+spared_tear c (suc f) b a k w n = search (rules, spared_tear c f, ne_eqb)
 
 spared_items : (c f k a : ℕ) (w : World) → a ≢ c → Spared c (tear_items f k a w).1
 unfolding tear_items
@@ -69,8 +67,7 @@ unfolding covered
 not_covered w a e = omega (arith, ints)
 
 justly_more : (u : World) (c : ℕ) (v : World) (rs qs : List Report) → Spared c rs → Justly u c v qs → Justly u c v (rs ++ qs)
-justly_more u c v rs qs f (inl p) = inl (p.0, All-append (λ (r : Report). tears_up c r ≡ false) rs qs f p.1)
-justly_more u c v rs qs f (inr p) = inr p
+justly_more u c v rs qs e f = grind (arith, ints, All-append)
 
 module _ (z : Limits) where
   -- a's own turn
@@ -80,7 +77,6 @@ module _ (z : Limits) where
   justly_now f a w h g false e =
       let v = (tear_items (length w.items) 0 a w).0 in
       let t = tears_items z (length w.items) 0 a w (omega arith) g (omega arith) in
-      let n = t.torn.accounts in
       let u = tears_all z f (suc a) v (omega arith) t.tearing in
       rw (turn_no f a w e)
       (inr (
@@ -95,15 +91,11 @@ module _ (z : Limits) where
   justly : (f a : ℕ) (w : World) (d c : ℕ) → f + a ≤ length w.accounts → Tearing z w → d < f → c ≡ d + a → (b : Bool) → covered w a w.orders ≡ b →
       Justly (tear_all d a w).0 c (tear_all f a w).0 (tear_all f a w).1
   justly zero a w d c h g l q b e = absurd (omega arith)
-  justly (suc f) a w zero c h g l q b e =
-      rw (turn_none a w)
-      (subst (λ (y : ℕ). Justly w y (tear_all (suc f) a w).0 (tear_all (suc f) a w).1) (omega arith) (justly_now f a w h g b e))
-  justly (suc f) a w (suc d) c h g l q true e =
-      rw (turn_yes f a w e, turn_yes d a w e) (justly f (suc a) w d c (omega arith) g (omega arith) (omega arith) _ refl)
+  justly (suc f) a w zero c h g l q b e = search (rules, turn_none, justly_now)
+  justly (suc f) a w (suc d) c h g l q true e = search (rules, turn_yes, justly f (suc a) w d c (omega arith) g (omega arith) (omega arith) _ refl)
   justly (suc f) a w (suc d) c h g l q false e =
       let v = (tear_items (length w.items) 0 a w).0 in
       let t = tears_items z (length w.items) 0 a w (omega arith) g (omega arith) in
-      let n = t.torn.accounts in
       rw (turn_no f a w e, turn_no d a w e)
       (justly_more _ c _ (tear_items (length w.items) 0 a w).1 _ (spared_items c (length w.items) 0 a w (λ r. omega arith))
       (justly f (suc a) v d c (omega arith) t.tearing (omega arith) (omega arith) _ refl))

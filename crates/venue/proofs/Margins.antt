@@ -1,24 +1,16 @@
 -- What an account needs, item by item: never below 0, and how it changes with orders and holdings.
-use Rattle.std.proofs.Common.{◌≡◌, ℕ, zero, suc, ◌+◌, ◌<◌, ◌≤◌, ◌≢◌, List, [], ◌∷◌, ◌++◌, length, get_or, ℤ, pos, ◌+ℤ◌, ◌-ℤ◌, ◌*ℤ◌, neg_ℤ, ◌≤ℤ◌, sym, arith}
+use Rattle.std.proofs.Common.{◌≡◌, ℕ, zero, suc, ◌+◌, ◌<◌, ◌≤◌, ◌≢◌, List, [], ◌∷◌, ◌++◌, length, get_or, ℤ, pos, ◌-ℤ◌, ◌≤ℤ◌, arith, rules}
 use Rattle.std.specs.List.{AllByRecursion}
 use Rattle.std.proofs.lemmas.Int.{ints}
 use Rattle.std.proofs.ByRecursion.{All-from_get_or}
-use Rattle.std.proofs.lemmas.Bool.{ne_eqb}
-use Rattle.venue.proofs.Picks.{larger_left, larger_right, larger_within}
 use Rattle.venue.proofs.Released.{buys_less, buys_push, sells_less, sells_push}
 use Rattle.venue.proofs.Weights.{Less}
 use Rattle.venue.specs.Invariant.{Cover, NotBelow}
 use Rattle.venue.specs.World.{Account, Item, Order, World, account, buys, held, larger, need, need_from, need_in, no_item, nobody, sells}
 
 need_in_0 : (a k : ℕ) (i : Item) (h : ℤ) (os : List Order) → pos 0 ≤ℤ need_in a k i h os
-unfolding need_in
-need_in_0 a k i h os = either_way (h *ℤ pos i.band) (buys a k i os) (sells a k i os)
-  where
-    either_way : (H : ℤ) (b s : ℕ) → pos 0 ≤ℤ larger (H +ℤ pos b) (neg_ℤ H +ℤ pos s)
-    either_way H b s =
-        let l = larger_left (H +ℤ pos b) (neg_ℤ H +ℤ pos s) in
-        let m = larger_right (H +ℤ pos b) (neg_ℤ H +ℤ pos s) in
-        omega (arith, ints)
+unfolding need_in larger
+need_in_0 a k i h os = grind (arith, ints)
 
 need_from_0 : (a k : ℕ) (is : List Item) (x : Account) (os : List Order) → pos 0 ≤ℤ need_from a k is x os
 unfolding need_from
@@ -40,8 +32,7 @@ pub need_mono : (c k : ℕ) (is : List Item) (x x' : Account) (os os' : List Ord
     need_from c k is x' os' ≤ℤ need_from c k is x os
 unfolding need_from
 need_mono c k [] x x' os os' f = omega (arith, ints)
-need_mono c k (i ∷ is) x x' os os' f =
-    omega (arith, ints, f k i (omega arith), need_mono c (suc k) is x x' os os' (λ j i h. f j i (omega arith)))
+need_mono c k (i ∷ is) x x' os os' f = search (rules, need_mono c (suc k) is x x' os os' (λ j i h. f j i (omega arith)))
 
 -- less by D in item m, which is d places on, and no more in any other
 pub need_step : (c k d m : ℕ) (is : List Item) (x x' : Account) (os os' : List Order) (D : ℤ) → d < length is → m ≡ k + d →
@@ -52,29 +43,19 @@ unfolding need_from
 need_step c k d m [] x x' os os' D h e f g = absurd (omega arith)
 need_step c k zero m (i ∷ is) x x' os os' D h e f g =
     omega (arith, ints, g k (omega arith), need_mono c (suc k) is x x' os os' (λ j i l. f j i (omega arith)))
-need_step c k (suc d) m (i ∷ is) x x' os os' D h e f g =
-    omega (arith, ints, f k i (omega arith), need_step c (suc k) d m is x x' os os' D (omega arith) (omega arith) f g)
+need_step c k (suc d) m (i ∷ is) x x' os os' D h e f g = search (rules, need_step c (suc k) d m is x x' os os' D (omega arith) (omega arith) f g)
 
 -- fewer orders, less need
 pub need_in_less : (c k : ℕ) (i : Item) (h : ℤ) (os os' : List Order) → buys c k i os' ≤ buys c k i os → sells c k i os' ≤ sells c k i os →
     need_in c k i h os' ≤ℤ need_in c k i h os
-unfolding need_in
-need_in_less c k i h os os' f g =
-    less (h *ℤ pos i.band) (buys c k i os) (buys c k i os') (sells c k i os) (sells c k i os') f g
-  where
-    less : (H : ℤ) (b b' s s' : ℕ) → b' ≤ b → s' ≤ s → larger (H +ℤ pos b') (neg_ℤ H +ℤ pos s') ≤ℤ larger (H +ℤ pos b) (neg_ℤ H +ℤ pos s)
-    less H b b' s s' f g =
-        let l = larger_left (H +ℤ pos b) (neg_ℤ H +ℤ pos s) in
-        let m = larger_right (H +ℤ pos b) (neg_ℤ H +ℤ pos s) in
-        larger_within _ _ _ (omega (arith, ints)) (omega (arith, ints))
+unfolding need_in larger
+need_in_less c k i h os os' e f = grind (arith, ints)
 
 -- the same account with no more orders
 pub need_less : (w : World) (c : ℕ) (os os' : List Order) →
     ((k : ℕ) (i : Item) → (buys c k i os' ≤ buys c k i os) × (sells c k i os' ≤ sells c k i os)) → need w c os' ≤ℤ need w c os
 unfolding need
-need_less w c os os' f =
-    need_mono c 0 w.items (account w c) (account w c) os os'
-    (λ j i l. need_in_less c j i (held (account w c) j) os os' (f j i).0 (f j i).1)
+need_less w c os os' f = search (rules, need_mono, need_in_less)
 
 pub need_released : (os os' : List Order) (u : Order) → Less os os' u → (c k : ℕ) (i : Item) (h : ℤ) → need_in c k i h os' ≤ℤ need_in c k i h os
 need_released os os' u f c k i h =
@@ -82,7 +63,4 @@ need_released os os' u f c k i h =
 
 -- an order of another account needs nothing
 pub other_need : (w : World) (c : ℕ) (os : List Order) (o : Order) → c ≢ o.account → need w c (os ++ o ∷ []) ≤ℤ need w c os
-other_need w c os o e =
-    let t = ne_eqb o.account c (λ q. e (sym q)) in
-    need_less w c os (os ++ o ∷ [])
-    (λ k i. (let b = rw t at (buys_push c k i os o) in omega arith, let b = rw t at (sells_push c k i os o) in omega arith))
+other_need w c os o e = search (rules, need_less, buys_push, sells_push)

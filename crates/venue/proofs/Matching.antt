@@ -1,7 +1,7 @@
 -- `matched` from its first turn to its last: the market that it leaves is as it should be, and there are enough turns.
-use Rattle.std.proofs.Common.{◌≡◌, ℕ, zero, suc, ◌-◌, ◌<◌, ◌≤◌, eqb, ltb, leb, ◌⊎◌, List, [], ◌∷◌, ◌++◌, length, get_or, sym, refl, ap, ◌∙◌, subst, inl, inr, arith}
+use Rattle.std.proofs.Common.{◌≡◌, ℕ, zero, suc, ◌-◌, ◌<◌, ◌≤◌, eqb, leb, ◌⊎◌, List, [], ◌∷◌, ◌++◌, length, get_or, sym, refl, ap, ◌∙◌, subst, arith, rules}
 use Rattle.std.proofs.ByRecursion.{All-push}
-use Rattle.std.proofs.lemmas.Bool.{both_ways, leb-true, leb-false, eqb-false}
+use Rattle.std.proofs.lemmas.Bool.{leb-true, leb-false, eqb-false}
 use Rattle.std.proofs.lemmas.List.{length_push}
 use Rattle.venue.proofs.Carrying.{items_traded, many_traded, orders_traded, turn_trades}
 use Rattle.venue.proofs.Covering.{cover_less}
@@ -11,7 +11,7 @@ use Rattle.venue.proofs.Numbers.{rising_higher, rising_push}
 use Rattle.venue.proofs.Orders.{one_less}
 use Rattle.venue.proofs.Picks.{by_pick, lesser_left, lesser_right}
 use Rattle.venue.proofs.Released.{buys_push, sells_push, standing_push}
-use Rattle.venue.specs.Invariant.{Inv, Left, Placed, Rising}
+use Rattle.venue.specs.Invariant.{Inv}
 use Rattle.venue.specs.Turn.{Turn, exchanged, partner}
 use Rattle.venue.specs.World.{Limits, Order, Report, World, account, best, less_left, lesser, matched, need, no_order, taken, traded, with_orders}
 
@@ -28,53 +28,21 @@ module _ (z : Limits) (w : World) (o : Order) (t : Turn z w o) where
   -- the turn with the order that `best` names
   pub turn_goes : best o w.orders < length w.orders →
       Turn z (traded w o (partner w o) (best o w.orders) (exchanged w o)) (less_left o (exchanged w o))
-  turn_goes h =
-      turn_trades z w o (best o w.orders) (exchanged w o) t h (best_meets o w.orders h)
-      (lesser_left o.left (partner w o).left) (lesser_right o.left (partner w o).left)
+  turn_goes h = search (rules, turn_trades, best_meets, lesser_left, lesser_right)
 
   -- without what is left of the order the market is as it should be: so it is once nothing is left
   pub turn_done : Inv z w
   turn_done =
-      record {
-        wide = t.wide;
-        placed = t.placed;
-        left = t.left;
-        numbers = rising_higher 1 w.orders o.number w.next (omega (arith, t.number)) t.numbers;
-        cash = t.cash;
-        held = t.held;
-        rich = rich_from w (w.orders ++ o ∷ []) t.cover;
-        cover = λ e. cover_less w (w.orders ++ o ∷ []) w.orders
-            (λ c k i. (omega (arith, buys_push c k i w.orders o), omega (arith, sells_push c k i w.orders o))) t.cover;
-        empty = λ e. absurd (both_ways w.trading e t.trading);
-        calm = t.calm;
-        items = t.items;
-        holds = λ c k l. omega (arith, standing_push c k w.orders o, t.holds c k l);
-        few = omega (arith, t.room);
-        money = t.money;
-        next = t.next;
-      }
+      let c = cover_less w (w.orders ++ o ∷ []) w.orders
+      (λ c k i. (omega (arith, buys_push c k i w.orders o), omega (arith, sells_push c k i w.orders o))) t.cover in
+      let r = rich_from w (w.orders ++ o ∷ []) t.cover in
+      let n = rising_higher 1 w.orders o.number w.next (omega (arith, t.number)) t.numbers in
+      search (rules, c, r, n, standing_push)
 
   -- what is left of it stands, since it meets no order
   pub turn_stands : 1 ≤ o.left → length w.orders ≤ best o w.orders → Inv z (with_orders w (w.orders ++ o ∷ []))
   unfolding with_orders need account
-  turn_stands h b =
-      record {
-        wide = t.wide;
-        placed = All-push (Placed (length w.accounts) w.items) w.orders o t.placed t.order;
-        left = All-push Left w.orders o t.left (h, t.most);
-        numbers = subst (Rising 1 (w.orders ++ o ∷ [])) (sym t.number) (rising_push 1 w.orders o t.numbers);
-        cash = t.cash;
-        held = t.held;
-        rich = rich_from w (w.orders ++ o ∷ []) t.cover;
-        cover = λ e. t.cover;
-        empty = λ e. absurd (both_ways w.trading e t.trading);
-        calm = calm_push o w.orders (best_none o w.orders b) t.calm;
-        items = t.items;
-        holds = t.holds;
-        few = omega (arith, length_push w.orders o, t.room);
-        money = t.money;
-        next = t.next;
-      }
+  turn_stands h b = search (rules, All-push, rising_push, rich_from, calm_push, best_none, length_push)
 
 -- f turns are enough for n standing orders and l left: a turn uses up a standing order or the one being placed
 abbrev pub Enough : ℕ → ℕ → ℕ → Type 0
@@ -86,10 +54,7 @@ none_left n l h = omega arith
 -- after a turn one fewer is enough
 pub enough_less : (f j : ℕ) (o : Order) (os : List Order) → j < length os → (o.left ≡ 0 → ⊥) → Enough (suc f) (length os) o.left →
     Enough f (length (taken j (lesser o.left (get_or os j no_order).left) os)) (o.left - lesser o.left (get_or os j no_order).left)
-enough_less f j o os h ne fu =
-    by_pick (λ (x : ℕ). Enough f (length (taken j x os)) (o.left - x)) (ltb o.left (get_or os j no_order).left)
-    o.left (get_or os j no_order).left
-    (λ e. inr (omega arith, omega arith)) (λ e. inl (omega (arith, one_less j (get_or os j no_order).left os h (omega arith))))
+enough_less f j o os h ne fu = search (rules, by_pick, one_less)
 
 pub leads_orders : (z : Limits) (w : World) (os : List Order) → Inv z (with_orders w os) → Leads z w (with_orders w os)
 unfolding with_orders

@@ -1,5 +1,6 @@
 -- Every message leads to a market that is as it should be, with as many items and accounts.
-use Rattle.std.proofs.Common.{ℕ, suc, ◌+◌, ◌&&◌, ltb, leb, List, length, pos, ◌-ℤ◌, refl, ap, ◌∙◌, inl, arith}
+use Rattle.std.proofs.Common.{◌≡◌, true, ℕ, suc, ◌&&◌, ltb, leb, List, length, pos, ◌-ℤ◌, refl, inl, arith, rules}
+use Rattle.std.proofs.lemmas.Int.{ints}
 use lib.Signed.{le_z}
 use Rattle.std.proofs.lemmas.Bool.{and_parts}
 use Rattle.venue.proofs.Covering.{cover_less}
@@ -12,34 +13,20 @@ use Rattle.venue.proofs.Payments.{leads_pay_in, leads_pay_out}
 use Rattle.venue.proofs.Picks.{by_pick}
 use Rattle.venue.proofs.Released.{buys_without, sells_without, standing_without}
 use Rattle.venue.proofs.Turns.{turn_starts}
-use Rattle.venue.specs.Invariant.{Inv, Left, Placed}
+use Rattle.venue.specs.Invariant.{Inv}
 use Rattle.venue.specs.Turn.{Turn, may_place}
-use Rattle.venue.specs.World.{Limits, Message, Order, Report, World, account, begin_day, cancel, counted, end_day, kind, matched, need, new_order}
+use Rattle.venue.specs.World.{Limits, Message, Order, Report, World, account, begin_day, cancel, counted, end_day, matched, need, new_order}
 use Rattle.venue.specs.World.{number_at, pay_in, pay_out, place, prices_fit, says, says_it, with_orders, without}
 
 -- an order is taken back
 leads_cancel : (z : Limits) (w : World) (j : ℕ) → Inv z w → Leads z w (with_orders w (without j w.orders))
 unfolding with_orders need account
 leads_cancel z w j i =
+    let c = λ (t : w.trading ≡ true). cover_less w w.orders (without j w.orders)
+    (λ c k i. (buys_without c k i j w.orders, sells_without c k i j w.orders)) (i.cover t) in
+    let f = few_without j w.orders in
     record {
-      inv = record {
-        wide = i.wide;
-        placed = all_without (Placed (length w.accounts) w.items) j w.orders i.placed;
-        left = all_without Left j w.orders i.left;
-        numbers = rising_without 1 j w.orders w.next i.numbers;
-        cash = i.cash;
-        held = i.held;
-        rich = i.rich;
-        cover = λ t. cover_less w w.orders (without j w.orders)
-            (λ c k i. (buys_without c k i j w.orders, sells_without c k i j w.orders)) (i.cover t);
-        empty = λ t. ap (without j) (i.empty t) ∙ without_none j;
-        calm = calm_without j w.orders i.calm;
-        items = i.items;
-        holds = λ c k l. omega (arith, standing_without c k j w.orders, i.holds c k l);
-        few = omega (arith, few_without j w.orders, i.few);
-        money = i.money;
-        next = i.next;
-      };
+      inv = search (rules, c, all_without, rising_without, without_none, calm_without, standing_without);
       items = refl;
       accounts = refl;
     }
@@ -53,9 +40,7 @@ leads_placed z w o t =
 
 pub leads_says_it : (z : Limits) (w : World) (m : Message) → Inv z w → Leads z w (says_it z w m).0
 unfolding says_it
-leads_says_it z w (pay_in a x) i =
-    by_pick (λ (y : World × List Report). Leads z w y.0) (ltb a (length w.accounts) && (leb 1 x && leb (w.money + x) z.money)) _ _
-    (λ e. leads_pay_in z w a x i e) (λ e. leads_same z w i)
+leads_says_it z w (pay_in a x) i = grind (arith, ints, by_pick, leads_pay_in, leads_same)
 leads_says_it z w (pay_out a x) i =
     by_pick (λ (y : World × List Report). Leads z w y.0)
     (ltb a (length w.accounts) && (leb 1 x && le_z (need w a w.orders) ((account w a).cash -ℤ pos x))) _ _
@@ -75,5 +60,4 @@ leads_says_it z w begin_day i =
 -- also one of a kind that there isn't yet
 pub leads_says : (z : Limits) (w : World) (m : Message) → Inv z w → Leads z w (says z w m).0
 unfolding says
-leads_says z w m i =
-    by_pick (λ (y : World × List Report). Leads z w y.0) (z.built (kind m)) _ _ (λ e. leads_says_it z w m i) (λ e. leads_same z w i)
+leads_says z w m i = search (rules, by_pick, leads_says_it, leads_same)

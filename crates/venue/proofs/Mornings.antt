@@ -1,7 +1,7 @@
 -- The steps of a morning, in plain words.
-use Rattle.std.proofs.Common.{◌≡◌, ℕ, zero, suc, ◌+◌, ◌<◌, ◌≤◌, Bool, true, false, ◌&&◌, eqb, List, ◌++◌, length, ℤ, pos, ◌+ℤ◌, ◌-ℤ◌, neg_ℤ, sym, refl, ap, ◌∙◌, subst, ⊎_elim, arith}
+use Rattle.std.proofs.Common.{◌≡◌, ℕ, zero, suc, ◌+◌, ◌<◌, ◌≤◌, Bool, true, false, ◌&&◌, eqb, List, ◌++◌, length, ℤ, pos, ◌+ℤ◌, ◌-ℤ◌, neg_ℤ, sym, refl, ap, ◌∙◌, subst, arith, rules}
 use Rattle.std.proofs.lemmas.Int.{ints}
-use Rattle.std.proofs.lemmas.Bool.{cases_eq, eqb-true, eqb-false}
+use Rattle.std.proofs.lemmas.Bool.{eqb-true, eqb-false}
 use Rattle.venue.proofs.Gets.{account_other, account_same, held_elsewhere, many_gets, wide_at, wide_gets}
 use Rattle.venue.proofs.Opposites.{NotAgainst, not_against, tear_by}
 use Rattle.venue.proofs.Picks.{by_pick, one_more}
@@ -10,16 +10,13 @@ use Rattle.venue.proofs.TearUp.{AgainstNone, against_more, amount, opposite_apar
 use Rattle.venue.proofs.Tears.{step_one, step_torn, step_two}
 use Rattle.venue.specs.Morning.{OneStep, Opposed, Steps, given, got, more, none, sum_over}
 use Rattle.venue.specs.Tearing.{Tearing}
-use Rattle.venue.specs.World.{Account, Limits, Report, World, account, covered, gets, held, item, opposite, pick, tear, tear_all, tear_items, torn}
+use Rattle.venue.specs.World.{Limits, Report, World, account, covered, gets, held, item, opposite, pick, tear, tear_all, tear_items, torn}
 use Rattle.venue.proofs.Opposing.{between, not_opposed, one_is_0, opposed, self_opposed}
 
 -- what one gets of item k changes no other holding
 gets_others : (w : World) (a k : ℕ) (x : ℤ) (p c j : ℕ) → a < length w.accounts → k < length (account w a).holds →
     ((c ≡ a) × (j ≡ k) → ⊥) → held (account (gets w a k x p) c) j ≡ held (account w c) j
-gets_others w a k x p c j la lk f =
-    ⊎_elim
-    (λ (q : c ≡ a). rw (q, account_same w a k x p la) (held_elsewhere w a k x p j lk (λ e. f (q, e))))
-    (λ (q : c ≡ a → ⊥). ap (λ (y : Account). held y j) (account_other w a k x p c q)) (cases_eq c a)
+gets_others w a k x p c j la lk f = search (rules, account_same, held_elsewhere, account_other)
 
 module _ (z : Limits) (a k : ℕ) where
   one_step : (w : World) (b : ℕ) → Tearing z w → a < length w.accounts → b < length w.accounts → k < length w.items →
@@ -59,7 +56,6 @@ module _ (z : Limits) (a k : ℕ) where
       by_pick (λ (y : World × List Report). Steps w y.1 y.0) (opposite (held (account w a) k) (held (account w b) k)) _ _
       (λ e.
       let o = tearing_goes z a k w b g la (omega arith) lk e in
-      let n = o.torn.accounts in
       let m = ap length o.torn.items in
       more (one_step w b g la (omega arith) lk e d)
       (steps_tear f (suc b) (torn_step w a b k) (omega arith) o.tearing (omega arith) (omega arith)
@@ -80,7 +76,6 @@ module _ (z : Limits) where
   steps_items (suc f) k a w h g la =
       let v = (tear (length w.accounts) 0 a k w).0 in
       let t = tears_tear z a k (length w.accounts) 0 w (omega arith) g la (omega arith) in
-      let n = t.torn.accounts in
       let m = ap length t.torn.items in
       steps_append w v _ _ _ (steps_tear z a k (length w.accounts) 0 w (omega arith) g la (omega arith) (λ c l. absurd (omega arith)))
       (steps_items f (suc k) a v (omega arith) t.tearing (omega arith))
@@ -94,7 +89,6 @@ module _ (z : Limits) where
       (λ e.
       let v = (tear_items (length w.items) 0 a w).0 in
       let t = tears_items z (length w.items) 0 a w (omega arith) g (omega arith) in
-      let n = t.torn.accounts in
       steps_append w v _ _ _ (steps_items (length w.items) 0 a w (omega arith) g (omega arith))
       (steps_all f (suc a) v (omega arith) t.tearing))
 
@@ -124,10 +118,7 @@ told_step w v a b k s c j o = by_cases (eqb a c) (eqb b c) (eqb k j) refl refl r
         let d = here b s o.gets (eqb-true b c f) (eqb-true k j g) in omega (arith, ints)
     by_cases false false true e f g =
         let d = o.others c j (λ x. eqb-false a c e (sym x.0)) (λ x. eqb-false b c f (sym x.0)) in omega (arith, ints)
-    by_cases true true false e f g = elsewhere g
-    by_cases true false false e f g = elsewhere g
-    by_cases false true false e f g = elsewhere g
-    by_cases false false false e f g = elsewhere g
+    by_cases p q false e f g = let d = elsewhere g in search rules
 
 pub told_steps : (w v : World) (rs : List Report) (c j : ℕ) → Steps w rs v →
     held (account v c) j ≡ (held (account w c) j -ℤ sum_over (given c j) rs) +ℤ sum_over (got c j) rs

@@ -1,10 +1,9 @@
 -- The need is the most that an account can lose: no course of the day costs more, and one costs just that.
-use Rattle.std.proofs.Common.{◌≡◌, ℕ, suc, ◌+◌, ◌-◌, ◌<◌, ◌≤◌, Bool, true, false, List, [], ◌∷◌, length, get_or, ℤ, pos, ◌+ℤ◌, ◌*ℤ◌, neg_ℤ, ◌≤ℤ◌, sym, refl, ap, ◌∙◌, arith}
+use Rattle.std.proofs.Common.{◌≡◌, ℕ, suc, ◌+◌, ◌-◌, ◌<◌, ◌≤◌, Bool, true, false, List, [], ◌∷◌, length, get_or, ℤ, pos, ◌+ℤ◌, ◌*ℤ◌, neg_ℤ, ◌≤ℤ◌, sym, refl, ap, ◌∙◌, arith, rules}
 use lib.Signed.{lt_z}
 use Rattle.std.specs.List.{AllByRecursion}
 use Rattle.std.proofs.lemmas.Int.{ints}
 use Rattle.std.proofs.ByRecursion.{All-weaker}
-use Rattle.venue.proofs.Picks.{by_pick}
 use Rattle.venue.proofs.Priorities.{good_same}
 use Rattle.venue.proofs.Sounds.{sound_inv}
 use Rattle.venue.proofs.Sums.{total_front, total_le, total_same}
@@ -12,7 +11,7 @@ use Rattle.venue.proofs.Worst.{low}
 use Rattle.venue.specs.Invariant.{Placed}
 use Rattle.venue.specs.Loss.{Allowed, Course, NeedIsEnough, NeedIsReached, all_lost, lost_in}
 use Rattle.venue.specs.Promise.{SoundItems}
-use Rattle.venue.specs.Settlement.{InBand, total}
+use Rattle.venue.specs.Settlement.{total}
 use Rattle.venue.specs.World.{Account, Item, Order, World, account, buys, held, is_buy, item, need, need_from, need_in, no_item, pick, sells}
 use Rattle.venue.proofs.Ends.{Banded}
 use Rattle.venue.proofs.Exposure.{item_enough, loss, reached_high, reached_low}
@@ -31,15 +30,11 @@ need_is c k (i ∷ is) x os f h =
 need_total : (w : World) (a : ℕ) (os : List Order) →
     need w a os ≡ total (length w.items) (λ (k : ℕ). need_in a k (item w k) (held (account w a) k) os)
 unfolding need item
-need_total w a os =
-    need_is a 0 w.items (account w a) os _
-    (λ j m l q. ap (λ (n : ℕ). need_in a n (get_or w.items j no_item) (held (account w a) n) os) (omega arith))
+need_total w a os = search (rules, need_is)
 
 banded : (w : World) (k : ℕ) → AllByRecursion (Placed (length w.accounts) w.items) w.orders → AllByRecursion (Banded k (item w k)) w.orders
 unfolding item
-banded w k f =
-    All-weaker (Placed (length w.accounts) w.items) (Banded k (get_or w.items k no_item))
-    (λ o p e. rw (sym e) (p.2, p.3)) w.orders f
+banded w k f = search (rules, All-weaker)
 
 pub is_enough : NeedIsEnough
 unfolding NeedIsEnough all_lost lost_in
@@ -68,20 +63,7 @@ module _ (w : World) (a : ℕ) where
 
   worst_allowed : SoundItems w.items → Allowed w worst
   unfolding worst item SoundItems
-  worst_allowed f =
-      record {
-        much = λ o. picks (is_buy o.side) (rises o.item) o.left;
-        at = λ o. good_same o.side o.price;
-        ends = λ k h. by_pick (InBand (get_or w.items k no_item)) (rises k) _ _
-            (λ e. record { low = omega arith; high = omega arith })
-            (λ e. let b = (f k h).1 in record { low = omega arith; high = omega arith });
-      }
-    where
-      picks : (b c : Bool) (n : ℕ) → pick b (pick c 0 n) (pick c n 0) ≤ n
-      picks true true n = omega arith
-      picks true false n = omega arith
-      picks false true n = omega arith
-      picks false false n = omega arith
+  worst_allowed f = search (rules, good_same)
 
   much_is : (o : Order) (k : ℕ) (b : Bool) → rises k ≡ b → o.item ≡ k →
       worst.much o ≡ pick (is_buy o.side) (pick b 0 o.left) (pick b o.left 0)

@@ -1,7 +1,6 @@
 -- The orders' numbers rise: also after some are taken or gone, and with a new one behind them.
-use Rattle.std.proofs.Common.{ℕ, zero, suc, ◌<◌, ◌≤◌, leb, List, [], ◌∷◌, ◌++◌, arith}
+use Rattle.std.proofs.Common.{ℕ, zero, suc, ◌<◌, ◌≤◌, List, [], ◌∷◌, ◌++◌, arith, rules}
 use Rattle.std.specs.List.{AllByRecursion}
-use Rattle.venue.proofs.Picks.{by_pick}
 use Rattle.venue.specs.Invariant.{Rising}
 use Rattle.venue.specs.World.{Order, less_left, taken, without}
 
@@ -21,9 +20,7 @@ pub rising_taken : (t j x : ℕ) (os : List Order) (n : ℕ) → Rising t os n �
 unfolding taken less_left
 rising_taken t zero x [] n r = r
 rising_taken t (suc j) x [] n r = r
-rising_taken t zero x (o ∷ os) n r =
-    by_pick (λ (z : List Order). Rising t z n) (leb o.left x) os (less_left o x ∷ os)
-    (λ e. rising_lower t (suc o.number) os n (omega (arith, r.0)) r.1) (λ e. r)
+rising_taken t zero x (o ∷ os) n r = search (rules, rising_lower)
 rising_taken t (suc j) x (o ∷ os) n r = (r.0, rising_taken (suc o.number) j x os n r.1)
 
 pub rising_without : (t j : ℕ) (os : List Order) (n : ℕ) → Rising t os n → Rising t (without j os) n

@@ -1,72 +1,41 @@
 -- When a payment is taken, and what it moves.
-use Rattle.std.proofs.Common.{◌≡◌, ℕ, ◌+◌, ◌-◌, ◌<◌, ◌≤◌, Bool, true, false, ◌&&◌, ltb, leb, ◌↔◌, List, [], ◌∷◌, length, ℤ, pos, ◌+ℤ◌, ◌-ℤ◌, neg_ℤ, ◌≤ℤ◌, refl, ap, ⊎_elim, arith}
+use Rattle.std.proofs.Common.{◌≡◌, ℕ, ◌+◌, ◌-◌, ◌<◌, ◌≤◌, Bool, true, ◌&&◌, ltb, leb, ◌↔◌, List, [], ◌∷◌, length, ℤ, pos, ◌+ℤ◌, ◌-ℤ◌, neg_ℤ, ◌≤ℤ◌, arith, rules}
 use lib.Signed.{le_z}
 use Rattle.std.proofs.lemmas.Int.{ints}
 use Rattle.std.proofs.lemmas.Bool.Decides.{nat_tests}
-use Rattle.std.proofs.lemmas.Bool.{cases_eq}
-use Rattle.std.proofs.lemmas.List.{get_or-set_same, get_or-set_other}
 use Rattle.venue.proofs.Cashflow.{out_within}
 use Rattle.venue.proofs.Payments.{with_cash}
 use Rattle.venue.proofs.Picks.{by_pick}
 use Rattle.venue.proofs.Sounds.{sound_inv}
-use Rattle.venue.proofs.Tests.{of_int_le}
 use Rattle.venue.specs.Payment.{Moved, PayInTaken, PayOutTaken, PaymentsMove}
 use Rattle.venue.specs.Sound.{Sound}
-use Rattle.venue.specs.World.{Account, Limits, Report, World, account, done, held, kind, need, no, nobody, pay_in, pay_out, pick, says, says_it}
+use Rattle.venue.specs.World.{Limits, Report, World, account, done, held, kind, need, no, pay_in, pay_out, pick, says, says_it}
 use Rattle.venue.specs.World.{with_account, with_money}
 
 -- a message of two ways is done exactly if its test says so
 pub done_if : (b : Bool) (v w : World) (n : ℕ) → ((pick {A = World × List Report} b (v, done n ∷ []) (w, no ∷ [])).1 ≡ done n ∷ []) ↔ (b ≡ true)
-done_if true v w n = (λ e. refl, λ e. refl)
-done_if false v w n = (λ e. cc, λ e. cc)
+done_if b v w n = grind (arith, ints)
 
 -- the tests of payments, in plain words
 in_test : (n a x m l : ℕ) → ((ltb a n && (leb 1 x && leb (m + x) l)) ≡ true) ↔ ((a < n) × (1 ≤ x) × (m + x ≤ l))
 in_test n a x m l = (λ e. grind (arith, nat_tests), λ h. grind (arith, nat_tests))
 
 out_test : (n a x : ℕ) (d c : ℤ) → ((ltb a n && (leb 1 x && le_z d c)) ≡ true) ↔ ((a < n) × (1 ≤ x) × (d ≤ℤ c))
-out_test n a x d c = (forth, back)
-  where
-    forth : (ltb a n && (leb 1 x && le_z d c)) ≡ true → (a < n) × (1 ≤ x) × (d ≤ℤ c)
-    forth e =
-        let h : (a < n) × (1 ≤ x) = grind (arith, nat_tests) in
-        let t : le_z d c ≡ true = grind arith in
-        (h.0, h.1, omega (arith, ints))
-
-    back : (a < n) × (1 ≤ x) × (d ≤ℤ c) → (ltb a n && (leb 1 x && le_z d c)) ≡ true
-    back h = let k = h.0 in let l = h.1 in let m = h.2 in let t = (of_int_le d c).back m in grind (arith, nat_tests)
+out_test n a x d c = search rules
 
 pub is_in_taken : PayInTaken
 unfolding PayInTaken says says_it kind
-is_in_taken z w a x b =
-    let t = in_test (length w.accounts) a x w.money z.money in
-    let d = done_if (ltb a (length w.accounts) && (leb 1 x && leb (w.money + x) z.money)) _ w 0 in
-    rw b (λ e. t.0 (d.0 e), λ h. d.1 (t.1 h))
+is_in_taken z w a x b = search rules
 
 pub is_out_taken : PayOutTaken
 unfolding PayOutTaken says says_it kind
-is_out_taken z w a x b =
-    let t = out_test (length w.accounts) a x (need w a w.orders) ((account w a).cash -ℤ pos x) in
-    let d = done_if (ltb a (length w.accounts) && (leb 1 x && le_z (need w a w.orders) ((account w a).cash -ℤ pos x))) _ w 0 in
-    rw b (λ e. t.0 (d.0 e), λ h. d.1 (t.1 h))
+is_out_taken z w a x b = search rules
 
 -- account a has x more, and so have all together
 moved : (w : World) (a m : ℕ) (x : ℤ) → a < length w.accounts → pos m ≡ pos w.money +ℤ x →
     Moved w (with_money (with_account w a (with_cash w a ((account w a).cash +ℤ x))) m) a x
 unfolding with_money with_account account held
-moved w a m x h e =
-    let y = with_cash w a ((account w a).cash +ℤ x) in
-    record {
-      cash = ap (λ (b : Account). b.cash) (get_or-set_same w.accounts a y nobody h);
-      money = e;
-      others = λ c n. ap (λ (b : Account). b.cash) (get_or-set_other w.accounts a c y nobody n);
-      holds = λ c k. ⊎_elim
-          (λ (q : c ≡ a). rw (q, get_or-set_same w.accounts a y nobody h) refl)
-          (λ (q : c ≡ a → ⊥). rw (get_or-set_other w.accounts a c y nobody q) refl) (cases_eq c a);
-      items = refl;
-      orders = refl;
-      trading = refl;
-    }
+moved w a m x e f = search rules
 
 -- by the way that was taken
 abbrev Moves : World → ℕ → ℤ → World × List Report → Type 0
@@ -74,7 +43,7 @@ Moves w a x y = y.1 ≡ done 0 ∷ [] → Moved w y.0 a x
 
 -- a refusal is not that
 pub not_done : {A : Type 0} → no ∷ [] ≡ done 0 ∷ [] → A
-not_done e = absurd (let z : ◌≡◌ {A = ℕ} 0 1 = cc in omega arith)
+not_done e = absurd cc
 
 moves_in : (z : Limits) (w : World) (a x : ℕ) → Moves w a (pos x) (says z w (pay_in a x))
 unfolding says says_it kind

@@ -1,5 +1,5 @@
 -- Paying in and paying out: one account's money changes, and the market's money with it.
-use Rattle.std.proofs.Common.{◌≡◌, ℕ, ◌+◌, ◌-◌, ◌<◌, ◌≤◌, true, ◌&&◌, ltb, leb, List, length, get_or, set, ℤ, pos, ◌+ℤ◌, ◌-ℤ◌, ◌≤ℤ◌, sym, refl, ◌∙◌, subst, ⊎_elim, arith}
+use Rattle.std.proofs.Common.{◌≡◌, ℕ, ◌+◌, ◌-◌, ◌<◌, ◌≤◌, true, ◌&&◌, ltb, leb, List, length, get_or, set, ℤ, pos, ◌+ℤ◌, ◌-ℤ◌, ◌≤ℤ◌, sym, refl, ◌∙◌, subst, ⊎_elim, arith, rules}
 use lib.Signed.{le_z, ≤ℤ_refl}
 use Rattle.std.specs.List.{AllByRecursion}
 use Rattle.std.proofs.lemmas.Int.{ints}
@@ -38,11 +38,7 @@ cover_cash w a m y os h e v c l =
 within_cash : (H : ℕ) (w : World) (a m : ℕ) (y : ℤ) (os : List Order) → a < length w.accounts → Within H w os →
     Within H (with_money (with_account w a (with_cash w a y)) m) os
 unfolding account with_money with_account held
-within_cash H w a m y os h v c k l =
-    ⊎_elim (λ (q : c ≡ a). rw (q, get_or-set_same w.accounts a (with_cash w a y) nobody h) (v a k h))
-    (λ (q : c ≡ a → ⊥). rw (get_or-set_other w.accounts a c (with_cash w a y) nobody q)
-    (v c k (omega (arith, length-set w.accounts a (with_cash w a y)))))
-    (cases_eq c a)
+within_cash H w a m y os h v c k l = search rules
 
 -- account a has y after it
 leads_cash : (z : Limits) (w : World) (a m : ℕ) (y : ℤ) → Inv z w → a < length w.accounts → pos m +ℤ (account w a).cash ≡ pos w.money +ℤ y →

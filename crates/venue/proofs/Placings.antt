@@ -1,14 +1,14 @@
 -- When an order is taken, and how it is carried out.
-use Rattle.std.proofs.Common.{◌≡◌, ℕ, zero, suc, ◌-◌, ◌<◌, ◌≤◌, Bool, true, eqb, leb, ◌⊎◌, List, [], ◌∷◌, length, sym, refl, subst, inl, inr, ⊎_elim, arith}
+use Rattle.std.proofs.Common.{◌≡◌, ℕ, zero, suc, ◌-◌, ◌<◌, ◌≤◌, eqb, leb, ◌⊎◌, List, [], ◌∷◌, length, sym, refl, subst, inl, arith, rules}
 use Rattle.std.proofs.ByRecursion.{All-get_or}
 use Rattle.std.proofs.lemmas.Bool.{both_ways, eqb-true, eqb-false, leb-true, leb-false}
 use Rattle.venue.proofs.Carrying.{orders_traded}
 use Rattle.venue.proofs.Matching.{Enough, enough_less, none_left, turn_goes}
 use Rattle.venue.proofs.Numbers.{numbers_below}
-use Rattle.venue.proofs.Picks.{by_pick, lesser_either, lesser_left, lesser_right}
+use Rattle.venue.proofs.Picks.{by_pick, lesser_either}
 use Rattle.venue.proofs.Priorities.{is_first_for}
 use Rattle.venue.proofs.Sounds.{sound_inv}
-use Rattle.venue.proofs.Tests.{Tests, both, of_le, of_int_le, of_lt, of_same_fact}
+use Rattle.std.specs.Bool.{Decides}
 use Rattle.venue.proofs.Trades.{traded_is}
 use Rattle.venue.proofs.Turns.{turn_starts}
 use Rattle.venue.specs.Invariant.{Left, Placed}
@@ -19,32 +19,9 @@ use Rattle.venue.specs.World.{Limits, Order, Report, Side, World, best, counted,
 use Rattle.venue.specs.World.{matched, new_order, no, no_order, pick, says, says_it, taken, traded, with_orders}
 use Rattle.venue.proofs.Exchanges.{exchanged_same, two_exchanged}
 
--- the test, in plain words
-of_true : (b : Bool) → Tests b (b ≡ true)
-of_true b = record { yes = λ e. e; back = λ e. e }
-
-of_may : (z : Limits) (w : World) (a k : ℕ) (s : Side) (p q : ℕ) → Tests (may_place z w a k s p q) (MayPlace z w a k s p q)
+of_may : (z : Limits) (w : World) (a k : ℕ) (s : Side) (p q : ℕ) → Decides (may_place z w a k s p q) (MayPlace z w a k s p q)
 unfolding covered new_order
-of_may z w a k s p q =
-    of_same_fact
-    (λ t. record {
-      trading = t.0.0;
-      who = t.0.1.0;
-      what = t.0.1.1;
-      some = t.1.0.0.0;
-      most = t.1.0.0.1;
-      price = record { low = t.1.0.1.0; high = t.1.0.1.1 };
-      room = t.1.1.0.0;
-      number = t.1.1.0.1;
-      holds = t.1.1.1.0;
-      covered = t.1.1.1.1;
-    })
-    (λ m. (
-      (m.trading, (m.who, m.what)),
-      (((m.some, m.most), (m.price.low, m.price.high)), ((m.room, m.number), (m.holds, m.covered))),
-    ))
-    (both (both (of_true w.trading) (both (of_lt _ _) (of_lt _ _)))
-    (both (both (both (of_le _ _) (of_le _ _)) (both (of_le _ _) (of_le _ _))) (both (both (of_lt _ _) (of_lt _ _)) (both (of_le _ _) (of_int_le _ _)))))
+of_may z w a k s p q = search rules
 
 pub is_place_taken : PlaceTaken
 unfolding PlaceTaken says says_it kind
@@ -52,13 +29,12 @@ is_place_taken z w a k s p q b =
     let t = of_may z w a k s p q in
     rw b (
       λ m. by_pick (λ (y : World × List Report). (rs : List Report) × (y.1 ≡ done w.next ∷ rs)) (may_place z w a k s p q) _ _
-          (λ e. (_, refl)) (λ e. absurd (both_ways _ e (t.back m))),
-      λ m. by_pick (λ (y : World × List Report). y.1 ≡ no ∷ []) (may_place z w a k s p q) _ _ (λ e. absurd (m (t.yes e))) (λ e. refl),
+          (λ e. (_, refl)) (λ e. absurd (both_ways _ e (t.1 m))),
+      λ m. by_pick (λ (y : World × List Report). y.1 ≡ no ∷ []) (may_place z w a k s p q) _ _ (λ e. absurd (m (t.0 e))) (λ e. refl),
     )
 
 smaller : (a b : ℕ) → ((lesser a b ≡ a) × (lesser a b ≤ b)) ⊎ ((lesser a b ≡ b) × (lesser a b ≤ a))
-smaller a b =
-    ⊎_elim (λ (e : lesser a b ≡ a). inl (e, lesser_right a b)) (λ (e : lesser a b ≡ b). inr (e, lesser_left a b)) (lesser_either a b)
+smaller a b = search rules
 
 module _ (z : Limits) where
   one_trade : (w : World) (o : Order) → Turn z w o → 1 ≤ o.left → best o w.orders < length w.orders →
@@ -114,7 +90,7 @@ abbrev Carries : World → Order → ℕ → World × List Report → Type 0
 Carries w o n y = (rs : List Report) → y.1 ≡ done n ∷ rs → Carried (counted w) o rs y.0
 
 refused : (w : World) (o : Order) (n : ℕ) → Carries w o n (w, no ∷ [])
-refused w o n rs e = absurd (let z : ◌≡◌ {A = ℕ} 0 1 = cc in omega arith)
+refused w o n rs e = absurd cc
 
 pub is_place_carried : PlaceCarried
 unfolding PlaceCarried says says_it kind new_order

@@ -1,5 +1,5 @@
 -- How large a gain or loss at the day's end can be, and every partial sum of it.
-use Rattle.std.proofs.Common.{◌≡◌, ℕ, zero, suc, ◌+◌, ◌*◌, ◌<◌, ◌≤◌, true, List, [], ◌∷◌, length, take, ℤ, pos, negsuc, ◌+ℤ◌, ◌-ℤ◌, ◌*ℤ◌, mul-le-mul_right, mul-le-mul_left, arith}
+use Rattle.std.proofs.Common.{◌≡◌, ℕ, suc, ◌+◌, ◌*◌, ◌<◌, ◌≤◌, true, List, ◌∷◌, length, take, ℤ, pos, negsuc, ◌+ℤ◌, ◌-ℤ◌, ◌*ℤ◌, mul-le-mul_right, mul-le-mul_left, arith, rules}
 use Rattle.std.specs.List.{AllByRecursion}
 use Rattle.std.proofs.lemmas.Int.{ints}
 use Rattle.std.proofs.lemmas.Bool.Decides.{nat_tests}
@@ -34,10 +34,6 @@ one_gain_le h p q b m f g c l =
 pub gain_front_le : (j k : ℕ) (is : List Item) (ps bs : List ℕ) (x : Account) (m : ℕ) → AllByRecursion ItemRange is → prices_fit is ps bs ≡ true →
     ((i : ℕ) → abs (held x i) ≤ m) → abs (gain k (take j is) (take j ps) x) ≤ j * (m * 1000000)
 unfolding gain prices_fit
-gain_front_le zero k is ps bs x m r e f = omega (arith, abs_pos 0)
-gain_front_le (suc j) k [] ps bs x m r e f = omega (arith, abs_pos 0)
-gain_front_le (suc j) k (i ∷ is) [] bs x m r e f = omega (arith, abs_pos 0)
-gain_front_le (suc j) k (i ∷ is) (p ∷ ps) [] x m r e f = absurd (let z : ◌≡◌ {A = ℕ} 0 1 = cc in omega arith)
 gain_front_le (suc j) k (i ∷ is) (p ∷ ps) (b ∷ bs) x m r e f =
     let t : prices_fit is ps bs ≡ true = grind arith in
     let g : (i.price ≤ p + i.band) × (p ≤ i.price + i.band) = grind (arith, nat_tests) in
@@ -46,6 +42,7 @@ gain_front_le (suc j) k (i ∷ is) (p ∷ ps) (b ∷ bs) x m r e f =
     let s = gain_front_le j (suc k) is ps bs x m r.1 t f in
     let a = abs_sum (held x k *ℤ (pos p -ℤ pos i.price)) (gain (suc k) (take j is) (take j ps) x) in
     omega arith
+gain_front_le j k is ps bs x m r e f = search (rules, abs_pos)
 
 -- 256 items, and 2 ^ 31 of each
 pub gain_range : (w : World) (a j : ℕ) (ps bs : List ℕ) → j ≤ 256 → Ranged w → a < length w.accounts → prices_fit w.items ps bs ≡ true →

@@ -1,5 +1,5 @@
 -- The ranges of a market's numbers: of one between two messages, at a turn of an order, and while holdings are torn up.
-use Rattle.std.proofs.Common.{◌≡◌, ℕ, ◌<◌, ◌≤◌, List, [], ◌∷◌, ◌++◌, length, get_or, pos, ◌≤ℤ◌, arith}
+use Rattle.std.proofs.Common.{◌≡◌, ℕ, ◌<◌, ◌≤◌, List, [], ◌∷◌, ◌++◌, length, get_or, pos, ◌≤ℤ◌, arith, rules}
 use Rattle.std.specs.List.{AllByRecursion}
 use Rattle.std.proofs.lemmas.Int.{ints}
 use Rattle.std.proofs.ByRecursion.{All-get_or, All-from_get_or}
@@ -16,7 +16,7 @@ use Rattle.venue.specs.Sizes.{Sized, Small}
 use Rattle.venue.specs.Sound.{Sound}
 use Rattle.venue.specs.Tearing.{Tearing}
 use Rattle.venue.specs.Turn.{Turn}
-use Rattle.venue.specs.World.{Item, Limits, Message, Order, World, abs, account, held, item, no_item, no_order, says}
+use Rattle.venue.specs.World.{Item, Limits, Message, Order, World, account, no_item, no_order, says}
 
 items_range : (is : List Item) → SoundItems is → AllByRecursion ItemRange is
 unfolding SoundItems
@@ -26,9 +26,7 @@ items_range is s =
 order_range : (n : ℕ) (is : List Item) (o : Order) → SoundItems is → Placed n is o → o.left ≤ 1000000 → o.number < 9223372036854775808 →
     OrderRange n (length is) o
 unfolding SoundItems
-order_range n is o s p l m =
-    let q = s o.item p.1 in
-    record { account = p.0; item = p.1; price = omega (arith, p.3, q.1, q.2); left = l; number = m }
+order_range n is o s p l m = search rules
 
 orders_range : (n : ℕ) (is : List Item) (os : List Order) (t : ℕ) → t ≤ 9223372036854775808 → SoundItems is → AllByRecursion (Placed n is) os → AllByRecursion Left os →
     Rising 1 os t → AllByRecursion (OrderRange n (length is)) os
@@ -43,14 +41,8 @@ cash_in w m a h r c l = (cash_at w a h r, omega (arith, ints, cash_within w a h 
 
 pub inv_range : (z : Limits) (w : World) → Small z → Inv z w → Ranged w
 inv_range z w s i =
-    record {
-      items = items_range w.items i.items;
-      orders = orders_range (length w.accounts) w.items w.orders w.next i.next i.items i.placed i.left i.numbers;
-      cash = λ a h. cash_in w 1125899906842624 a h i.rich i.cash (omega (arith, i.money, s.money));
-      held = λ a k h. omega (arith, i.holds a k h, s.holding);
-      money = omega (arith, i.money, s.money);
-      next = i.next;
-    }
+    let c = λ (a : ℕ) (h : a < length w.accounts). cash_in w 1125899906842624 a h i.rich i.cash (omega (arith, i.money, s.money)) in
+    search (rules, c, items_range, orders_range)
 
 -- at every turn, and of the order being placed too
 pub turn_range : (z : Limits) (w : World) (o : Order) → Small z → Turn z w o →
@@ -76,17 +68,7 @@ pub sized_small : (z : Limits) (w : World) → Sized z w → Small z
 sized_small z w s = record { orders = s.few_orders; money = s.money; holding = s.holding }
 
 sized_leads : (z : Limits) (w v : World) → Leads z w v → Sized z w → Sized z v
-sized_leads z w v l s =
-    record {
-      some_items = omega (arith, l.items, s.some_items);
-      few_items = omega (arith, l.items, s.few_items);
-      some_accounts = omega (arith, l.accounts, s.some_accounts);
-      few_accounts = omega (arith, l.accounts, s.few_accounts);
-      some_orders = s.some_orders;
-      few_orders = s.few_orders;
-      money = s.money;
-      holding = s.holding;
-    }
+sized_leads z w v l s = search rules
 
 pub sized_says : (z : Limits) (w : World) (m : Message) → Sound z w → Sized z w → Sized z (says z w m).0
 sized_says z w m e s = sized_leads z w (says z w m).0 (leads_says z w m (sound_inv z w e)) s
@@ -97,15 +79,3 @@ sound_range z w e s = inv_range z w (sized_small z w s) (sound_inv z w e)
 pub cash_range : (z : Limits) (w : World) (a : ℕ) → Sound z w → Sized z w → a < length w.accounts →
     (pos 0 ≤ℤ (account w a).cash) × ((account w a).cash ≤ℤ pos 1125899906842624)
 cash_range z w a e s h = (sound_range z w e s).cash a h
-
-pub held_range : (z : Limits) (w : World) (a k : ℕ) → Sound z w → Sized z w → a < length w.accounts → abs (held (account w a) k) ≤ 2147483648
-held_range z w a k e s h = (sound_range z w e s).held a k h
-
--- of one item and of one order
-pub item_at : (w : World) (k : ℕ) → Ranged w → k < length w.items → ItemRange (item w k)
-unfolding item
-item_at w k r h = All-get_or ItemRange w.items k no_item h r.items
-
-pub order_at : (w : World) (j : ℕ) → Ranged w → j < length w.orders →
-    OrderRange (length w.accounts) (length w.items) (get_or w.orders j no_order)
-order_at w j r h = All-get_or (OrderRange (length w.accounts) (length w.items)) w.orders j no_order h r.orders

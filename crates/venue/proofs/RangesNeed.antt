@@ -1,24 +1,21 @@
 -- How large a need can be, and every partial sum of it.
-use Rattle.std.proofs.Common.{ℕ, suc, ◌+◌, ◌-◌, ◌*◌, ◌<◌, ◌≤◌, Bool, true, false, not, ◌&&◌, eqb, List, [], ◌∷◌, ◌++◌, length, ℤ, pos, negsuc, ◌+ℤ◌, ◌*ℤ◌, neg_ℤ, ◌≤ℤ◌, mul-le-mul_right, mul-le-mul_left, arith}
+use Rattle.std.proofs.Common.{ℕ, suc, ◌+◌, ◌*◌, ◌<◌, ◌≤◌, Bool, ◌&&◌, List, [], ◌∷◌, ◌++◌, length, ℤ, pos, ◌+ℤ◌, ◌*ℤ◌, neg_ℤ, ◌≤ℤ◌, mul-le-mul_right, mul-le-mul_left, arith, rules}
 use Rattle.std.specs.List.{AllByRecursion}
 use Rattle.std.proofs.lemmas.Int.{ints}
 use Rattle.std.proofs.ByRecursion.{All-push, All-weaker}
 use Rattle.venue.proofs.Margins.{need_0}
-use Rattle.venue.proofs.Picks.{abs_is, abs_pos, larger_within}
+use Rattle.venue.proofs.Picks.{abs_is, larger_within}
 use Rattle.venue.proofs.RangesMarket.{inv_range}
 use Rattle.venue.proofs.Turns.{within_new}
 use Rattle.venue.specs.Invariant.{Inv}
 use Rattle.venue.specs.Ranges.{ItemRange, OrderRange}
 use Rattle.venue.specs.Sizes.{Small}
-use Rattle.venue.specs.World.{Account, Item, Limits, Order, World, abs, account, buys, counted, held, is_buy, larger, need, need_from, need_in, pick}
+use Rattle.venue.specs.World.{Account, Item, Limits, Order, World, abs, account, buys, counted, held, larger, need, need_from, need_in, pick}
 use Rattle.venue.specs.World.{sells, standing}
 
 -- what an order adds to a loss is at most 3,000,000 for each that is left of it
 share_le : (a k b : Bool) (l c : ℕ) → c ≤ 3000000 → pick (a && (k && b)) (l * c) 0 ≤ pick (a && k) l 0 * 3000000
-share_le true true true l c h = mul-le-mul_left l h
-share_le true true false l c h = omega arith
-share_le true false b l c h = omega arith
-share_le false k b l c h = omega arith
+share_le a k b l c e = grind (arith, ints, mul-le-mul_left l e)
 
 -- an order's price that fits
 abbrev pub Priced : Order → Type 0
@@ -27,29 +24,16 @@ Priced o = o.price ≤ 2000000
 pub buys_le : (a k : ℕ) (i : Item) (os : List Order) → ItemRange i → AllByRecursion Priced os → buys a k i os ≤ standing a k os * 3000000
 unfolding buys standing
 buys_le a k i [] r p = omega arith
-buys_le a k i (o ∷ os) r p =
-    omega (
-      arith,
-      buys_le a k i os r p.1,
-      share_le (eqb o.account a) (eqb o.item k) (is_buy o.side) o.left ((o.price + i.band) - i.price)
-          (omega (arith, p.0, r.price, r.band_high)),
-    )
+buys_le a k i (o ∷ os) r p = search (rules, share_le, buys_le a k i os r p.1)
 
 pub sells_le : (a k : ℕ) (i : Item) (os : List Order) → ItemRange i → sells a k i os ≤ standing a k os * 3000000
 unfolding sells standing
 sells_le a k i [] r = omega arith
-sells_le a k i (o ∷ os) r =
-    omega (
-      arith,
-      sells_le a k i os r,
-      share_le (eqb o.account a) (eqb o.item k) (not (is_buy o.side)) o.left ((i.price + i.band) - o.price)
-          (omega (arith, r.price, r.band_high)),
-    )
+sells_le a k i (o ∷ os) r = search (rules, share_le, sells_le a k i os r)
 
 -- a holding times a band
 band_le : (h : ℤ) (b : ℕ) → b ≤ 1000000 → ((h *ℤ pos b) ≤ℤ pos (abs h * 3000000)) × (neg_ℤ (h *ℤ pos b) ≤ℤ pos (abs h * 3000000))
-band_le (pos a) b h = rw (abs_pos a) (let m = mul-le-mul_left a h in (omega (arith, ints), omega (arith, ints)))
-band_le (negsuc a) b h = rw (abs_is (negsuc a)) (let m = mul-le-mul_left (suc a) h in (omega (arith, ints), omega (arith, ints)))
+band_le h b e = grind (arith, ints, abs_is, mul-le-mul_left)
 
 larger_le : (H : ℤ) (b s m n : ℕ) → H ≤ℤ pos m → neg_ℤ H ≤ℤ pos m → b ≤ n → s ≤ n → larger (H +ℤ pos b) (neg_ℤ H +ℤ pos s) ≤ℤ pos (m + n)
 larger_le H b s m n f g c d = larger_within _ _ _ (omega (arith, ints)) (omega (arith, ints))

@@ -1,13 +1,12 @@
 -- How many reports a message has at most.
-use Rattle.std.proofs.Common.{suc, ◌+◌, ◌*◌, ◌≤◌, max, Bool, List, [], ◌∷◌, length, arith}
+use Rattle.std.proofs.Common.{suc, ◌+◌, ◌*◌, ◌≤◌, max, Bool, List, [], ◌∷◌, length, arith, rules}
 use Rattle.venue.proofs.Picks.{by_pick}
 use Rattle.venue.proofs.Sounds.{sound_inv}
 use Rattle.venue.proofs.TearReports.{tears_le}
 use Rattle.venue.proofs.TradeReports.{trades_le}
 use Rattle.venue.specs.Invariant.{Inv}
 use Rattle.venue.specs.Sound.{Sound}
-use Rattle.venue.specs.Turn.{may_place}
-use Rattle.venue.specs.World.{Limits, Message, Order, Report, World, begin_day, cancel, counted, end_day, kind, matched, new_order, pay_in, pay_out}
+use Rattle.venue.specs.World.{Limits, Message, Order, Report, World, begin_day, cancel, counted, end_day, matched, pay_in, pay_out}
 use Rattle.venue.specs.World.{pick, place, says, says_it}
 
 -- one report, and a trade for each order or a tear-up for each holding
@@ -26,9 +25,7 @@ reports_it : (z : Limits) (w : World) (m : Message) → Inv z w → Few z w (say
 unfolding says_it
 reports_it z w (pay_in a x) i = one_report z w _ _ _ _ _
 reports_it z w (pay_out a x) i = one_report z w _ _ _ _ _
-reports_it z w (place a k s p q) i =
-    by_pick (λ (y : World × List Report). Few z w y.1) (may_place z w a k s p q) _ _
-    (λ e. omega (arith, placed_reports w (new_order w a k s p q), i.few)) (λ e. omega arith)
+reports_it z w (place a k s p q) i = search (rules, by_pick, placed_reports)
 reports_it z w (cancel a n) i = one_report z w _ _ _ _ _
 reports_it z w (end_day ps bs) i = one_report z w _ _ _ _ _
 reports_it z w begin_day i =
@@ -38,6 +35,4 @@ reports_it z w begin_day i =
 pub says_reports : (z : Limits) (w : World) (m : Message) → Sound z w →
     length (says z w m).1 ≤ 1 + max z.orders (length w.accounts * length w.items)
 unfolding says
-says_reports z w m s =
-    by_pick (λ (y : World × List Report). Few z w y.1) (z.built (kind m)) _ _
-    (λ e. reports_it z w m (sound_inv z w s)) (λ e. omega arith)
+says_reports z w m s = search (rules, by_pick, reports_it, sound_inv)

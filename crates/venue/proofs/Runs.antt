@@ -1,5 +1,5 @@
 -- First markets, rows of messages, and the promises.
-use Rattle.std.proofs.Common.{◌≡◌, ℕ, zero, suc, ◌+◌, ◌<◌, ◌≤◌, false, List, [], ◌∷◌, length, get_or, replicate, ℤ, pos, ◌+ℤ◌, sym, refl, ap, ◌∙◌, subst, arith}
+use Rattle.std.proofs.Common.{◌≡◌, ℕ, zero, suc, ◌+◌, ◌<◌, ◌≤◌, false, List, [], ◌∷◌, length, get_or, replicate, ℤ, pos, ◌+ℤ◌, sym, refl, ap, ◌∙◌, subst, arith, rules}
 use Rattle.std.specs.List.{AllByRecursion}
 use Rattle.std.proofs.lemmas.Int.{ints}
 use Rattle.std.proofs.ByRecursion.{All-get_or}
@@ -11,10 +11,7 @@ use Rattle.venue.proofs.Totals.{cash_at}
 use Rattle.venue.specs.Invariant.{Inv, Left, NotBelow, Uncrossed, Wide}
 use Rattle.venue.specs.Promise.{Covered, Kept, NotCrossed, SomethingLeft, SoundItems, all_cash, all_held}
 use Rattle.venue.specs.World.{Account, Item, Limits, Message, Order, World, abs, account, first, held, no_order, nobody, run, says, standing}
-
-all_same : (P : Account → Type 0) (n : ℕ) (x : Account) → P x → AllByRecursion P (replicate n x)
-all_same P zero x p = tt
-all_same P (suc n) x p = (p, all_same P n x p)
+use Rattle.std.proofs.lemmas.List.Elements.{recursion_from_All, All-replicate}
 
 cash_first : (n : ℕ) (hs : List ℤ) → all_cash (replicate n (record { cash = pos 0; holds = hs })) ≡ pos 0
 unfolding all_cash
@@ -22,9 +19,8 @@ cash_first zero hs = refl
 cash_first (suc n) hs = ap (λ (z : ℤ). pos 0 +ℤ z) (cash_first n hs)
 
 pub held_none : (m k : ℕ) → get_or (replicate m (pos 0)) k (pos 0) ≡ pos 0
-held_none zero k = refl
-held_none (suc m) zero = refl
 held_none (suc m) (suc k) = held_none m k
+held_none m k = search rules
 
 held_first : (n m k : ℕ) → all_held k (replicate n (record { cash = pos 0; holds = replicate m (pos 0) })) ≡ pos 0
 unfolding all_held held
@@ -37,13 +33,13 @@ unfolding first account held standing
 inv_first z is n s =
     let x : Account = record { cash = pos 0; holds = replicate (length is) (pos 0) } in
     record {
-      wide = all_same (Wide (length is)) n x (length-replicate (length is) (pos 0));
+      wide = recursion_from_All (Wide (length is)) _ (All-replicate (Wide (length is)) n x (length-replicate (length is) (pos 0)));
       placed = tt;
       left = tt;
       numbers = omega arith;
       cash = cash_first n (replicate (length is) (pos 0));
       held = held_first n (length is);
-      rich = all_same NotBelow n x (omega (arith, ints));
+      rich = recursion_from_All NotBelow _ (All-replicate NotBelow n x (omega (arith, ints)));
       cover = λ e. absurd (both_ways false refl e);
       empty = λ e. refl;
       calm = tt;

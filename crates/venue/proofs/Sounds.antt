@@ -1,12 +1,14 @@
 -- The test of a market passes exactly the markets that are as they should be.
-use Rattle.std.proofs.Common.{◌≡◌, ℕ, ◌≤◌, true, false, List, [], length, pos}
+use Rattle.std.proofs.Common.{◌≡◌, ℕ, ◌≤◌, true, false, List, [], length, pos, rules}
 use Rattle.std.specs.List.{AllByRecursion}
 use Rattle.venue.proofs.Messages.{leads_says}
-use Rattle.venue.proofs.Runs.{inv_first, inv_run}
+use Rattle.venue.proofs.Runs.{inv_first}
 use Rattle.venue.proofs.Tested.{of_cash, of_cleared, of_covered, of_debts, of_held, of_holds_each, of_in_place, of_items, of_not_crossed, of_rising}
 use Rattle.venue.proofs.Tested.{of_some_left}
 use Rattle.venue.proofs.TestedLimits.{of_holds, of_limits}
-use Rattle.venue.proofs.Tests.{Tests, both, both_then, of_every}
+use Rattle.std.specs.Bool.{Decides}
+use Rattle.std.proofs.lemmas.Bool.Decides.{Decides-and}
+use Rattle.venue.proofs.Tests.{both_then, of_every}
 use Rattle.venue.proofs.Totals.{cash_at}
 use Rattle.venue.proofs.Turns.{turn_starts}
 use Rattle.venue.specs.Invariant.{Calm, Cover, Inv, Left, NotBelow, Placed, Rising, Wide, Within}
@@ -14,7 +16,7 @@ use Rattle.venue.specs.Promise.{Safe, SoundItems, all_cash, all_held}
 use Rattle.venue.specs.Sound.{Sound, in_place, some_left, sound_test}
 use Rattle.venue.specs.Tearing.{Tearing}
 use Rattle.venue.specs.Turn.{Turn, may_place}
-use Rattle.venue.specs.World.{Item, Limits, Message, Side, World, counted, first, new_order, run, says}
+use Rattle.venue.specs.World.{Item, Limits, Message, Side, World, counted, first, new_order, says}
 
 -- the facts in the test's order
 abbrev Parts : Limits → World → Type 0
@@ -33,10 +35,10 @@ Parts z w =
     × Within z.holding w w.orders)
     × (((length w.orders ≤ z.orders) × (w.money ≤ z.money)) × (w.next ≤ 9223372036854775808))
 
-of_parts : (z : Limits) (w : World) → Tests (sound_test z w) (Parts z w)
+of_parts : (z : Limits) (w : World) → Decides (sound_test z w) (Parts z w)
 unfolding sound_test
 of_parts z w =
-    both (both_then (both (both (both (both (both (both_then (both (both (both (both (of_holds_each w)
+    Decides-and _ _ (both_then _ _ (Decides-and _ _ (Decides-and _ _ (Decides-and _ _ (Decides-and _ _ (Decides-and _ _ (both_then _ _ (Decides-and _ _ (Decides-and _ _ (Decides-and _ _ (Decides-and _ _ (of_holds_each w)
     (of_every (in_place w) (Placed (length w.accounts) w.items) (of_in_place w) w.orders))
     (of_every some_left Left of_some_left w.orders))
     (of_rising 1 w.orders w.next))
@@ -50,46 +52,17 @@ of_parts z w =
     (λ p. let q = p.0.0.0.0.0.0.0.0.0 in of_holds z w q.0 q.1))
     (of_limits z w)
 
-inv_from : (z : Limits) (w : World) → Parts z w → Inv z w
-inv_from z w ((((((((((((a, b), c), d), e), f), g), h), i), j), k), l), ((m, n), o)) =
-    record {
-      wide = a;
-      placed = b;
-      left = c;
-      numbers = d;
-      cash = e;
-      held = f;
-      rich = g;
-      cover = h;
-      empty = i;
-      calm = j;
-      items = k;
-      holds = l;
-      few = m;
-      money = n;
-      next = o;
-    }
-
-parts_from : (z : Limits) (w : World) → Inv z w → Parts z w
-parts_from z w i = (
-  (((((((((((i.wide, i.placed), i.left), i.numbers), i.cash), i.held), i.rich), i.cover), i.empty), i.calm), i.items), i.holds),
-  ((i.few, i.money), i.next),
-)
-
 pub sound_inv : (z : Limits) (w : World) → Sound z w → Inv z w
-sound_inv z w s = inv_from z w ((of_parts z w).yes s)
+sound_inv z w s = search (rules, of_parts)
 
 pub inv_sound : (z : Limits) (w : World) → Inv z w → Sound z w
-inv_sound z w i = (of_parts z w).back (parts_from z w i)
+inv_sound z w i = search (rules, of_parts)
 
 pub sound_first : (z : Limits) (is : List Item) (n : ℕ) → SoundItems is → Sound z (first is n)
 sound_first z is n s = inv_sound z (first is n) (inv_first z is n s)
 
 pub sound_says : (z : Limits) (w : World) (m : Message) → Sound z w → Sound z (says z w m).0
 sound_says z w m s = inv_sound z (says z w m).0 (leads_says z w m (sound_inv z w s)).inv
-
-pub sound_run : (z : Limits) (w : World) (ms : List Message) → Sound z w → Sound z (run z w ms)
-sound_run z w ms s = inv_sound z (run z w ms) (inv_run z w ms (sound_inv z w s))
 
 pub sound_safe : (z : Limits) (w : World) → Sound z w → Safe w
 unfolding Safe

@@ -1,5 +1,5 @@
 -- Sums below a number.
-use Rattle.std.proofs.Common.{◌≡◌, ℕ, zero, suc, ◌<◌, ℤ, ◌+ℤ◌, ◌≤ℤ◌, refl, arith}
+use Rattle.std.proofs.Common.{◌≡◌, ℕ, zero, suc, ◌<◌, ℤ, ◌+ℤ◌, ◌≤ℤ◌, refl, arith, rules}
 use Rattle.std.proofs.lemmas.Int.{ints}
 use Rattle.venue.specs.Settlement.{total}
 
@@ -12,11 +12,9 @@ total_front (suc n) f = let e = total_front n f in omega (arith, ints)
 pub total_same : (n : ℕ) (f g : ℕ → ℤ) → ((k : ℕ) → k < n → f k ≡ g k) → total n f ≡ total n g
 unfolding total
 total_same zero f g h = refl
-total_same (suc n) f g h =
-    let e = total_same n f g (λ k l. h k (omega arith)) in let d = h n (omega arith) in omega (arith, ints)
+total_same (suc n) f g h = search (rules, total_same n f g (λ k l. h k (omega arith)))
 
 pub total_le : (n : ℕ) (f g : ℕ → ℤ) → ((k : ℕ) → k < n → f k ≤ℤ g k) → total n f ≤ℤ total n g
 unfolding total
 total_le zero f g h = omega (arith, ints)
-total_le (suc n) f g h =
-    let e = total_le n f g (λ k l. h k (omega arith)) in let d = h n (omega arith) in omega (arith, ints)
+total_le (suc n) f g h = search (rules, total_le n f g (λ k l. h k (omega arith)))

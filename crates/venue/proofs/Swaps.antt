@@ -1,5 +1,5 @@
 -- Some of an item goes from one account to another, or to the same: what stays.
-use Rattle.std.proofs.Common.{◌≡◌, ℕ, ◌<◌, Bool, true, false, eqb, length, ℤ, pos, ◌+ℤ◌, ◌-ℤ◌, ◌*ℤ◌, sym, refl, ap, ◌∙◌, arith}
+use Rattle.std.proofs.Common.{◌≡◌, ℕ, ◌<◌, Bool, eqb, length, ℤ, pos, ◌+ℤ◌, ◌-ℤ◌, ◌*ℤ◌, sym, ap, ◌∙◌, arith}
 use Rattle.std.specs.List.{AllByRecursion}
 use Rattle.std.proofs.lemmas.Int.{ints}
 use Rattle.venue.proofs.Gets.{cash_gets, held_gets, item_gets, many_gets, wide_at, wide_gets}
@@ -15,8 +15,7 @@ pub record Swapped (w v : World) : Type 0 where
   pub held : (k : ℕ) → all_held k v.accounts ≡ all_held k w.accounts
 
 cancels : (b : Bool) (x y : ℤ) → x +ℤ y ≡ pos 0 → pick b x (pos 0) +ℤ pick b y (pos 0) ≡ pos 0
-cancels true x y e = e
-cancels false x y e = refl
+cancels b x y e = grind (arith, ints)
 
 -- a gets x and b gets y, for p each, and x + y is 0
 pub swapped : (n : ℕ) (w : World) (a b k : ℕ) (x y : ℤ) (p : ℕ) → x +ℤ y ≡ pos 0 → a < length w.accounts → b < length w.accounts →

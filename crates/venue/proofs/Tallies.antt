@@ -1,5 +1,5 @@
 -- What accounts hold, from messages and reports alone.
-use Rattle.std.proofs.Common.{◌≡◌, ℕ, zero, suc, ◌+◌, ◌-◌, ◌<◌, ◌≤◌, ◌&&◌, eqb, ltb, leb, ◌≢◌, List, [], ◌∷◌, length, get_or, replicate, ℤ, pos, ◌+ℤ◌, ◌-ℤ◌, sym, refl, ap, subst, arith}
+use Rattle.std.proofs.Common.{◌≡◌, ℕ, zero, suc, ◌+◌, ◌-◌, ◌<◌, ◌&&◌, eqb, ltb, leb, ◌≢◌, List, [], ◌∷◌, length, get_or, replicate, ℤ, pos, ◌+ℤ◌, ◌-ℤ◌, sym, refl, ap, subst, arith, rules}
 use lib.Signed.{le_z}
 use Rattle.std.proofs.lemmas.Int.{ints}
 use Rattle.std.proofs.ByRecursion.{All-weaker}
@@ -40,17 +40,8 @@ module _ (z : Limits) (own : ℕ → ℕ) (w : World) (i : Inv z w) (f : Owned o
   -- a refusal
   tallies_no : (m : Message) → Tallies own w m (w, no ∷ [])
   unfolding owners change sum_over number_of
-  tallies_no (pay_in a x) = (λ c k. same_held _ _ refl, f)
-  tallies_no (pay_out a x) = (λ c k. same_held _ _ refl, f)
-  tallies_no (place a k s p q) = (
-    λ c j. same_held _ _ refl,
-    owned_other own a 0 w.orders
-        (All-weaker (λ (o : Order). 1 ≤ o.number) (λ (o : Order). o.number ≢ 0) (λ o h d. omega arith) w.orders
-        (numbers_from 1 w.orders w.next i.numbers)) f,
-  )
-  tallies_no (cancel a n) = (λ c k. same_held _ _ refl, f)
-  tallies_no (end_day ps bs) = (λ c k. same_held _ _ refl, f)
-  tallies_no begin_day = (λ c k. same_held _ _ refl, f)
+  tallies_no (place a k s p q) = search (rules, owned_other, All-weaker, numbers_from)
+  tallies_no m = search rules
 
   tallies_place : (a k : ℕ) (s : Side) (p q : ℕ) → Tallies own w (place a k s p q) (says_it z w (place a k s p q))
   unfolding says_it owners number_of sum_over change

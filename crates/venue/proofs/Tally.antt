@@ -1,10 +1,9 @@
 -- How trades and tear-ups change what an account holds, by their reports.
-use Rattle.std.proofs.Common.{◌≡◌, ℕ, suc, ◌<◌, ◌≤◌, ◌&&◌, eqb, ◌≢◌, List, [], ◌∷◌, length, get_or, ℤ, pos, ◌+ℤ◌, ◌-ℤ◌, sym, refl, subst, ⊎_elim, arith}
+use Rattle.std.proofs.Common.{◌≡◌, ℕ, suc, ◌<◌, ◌≤◌, ◌&&◌, eqb, ◌≢◌, List, [], ◌∷◌, length, get_or, ℤ, pos, ◌+ℤ◌, ◌-ℤ◌, sym, refl, subst, arith, rules}
 use Rattle.std.specs.List.{AllByRecursion}
 use Rattle.std.proofs.lemmas.Int.{ints}
 use Rattle.std.proofs.ByRecursion.{All-get_or, All-push, All-weaker}
-use Rattle.std.proofs.lemmas.List.{get_or-set_same, get_or-set_other}
-use Rattle.std.proofs.lemmas.Bool.{cases_eq, ne_eqb}
+use Rattle.std.proofs.lemmas.Bool.{ne_eqb}
 use Rattle.venue.proofs.Payments.{with_cash}
 use Rattle.venue.proofs.Placings.{placed}
 use Rattle.venue.specs.Invariant.{Rising}
@@ -15,7 +14,7 @@ use Rattle.venue.specs.Placing.{Carried, all_gone, stands, trades}
 use Rattle.venue.specs.Positions.{change, side_of}
 use Rattle.venue.proofs.Mornings.{told_step}
 use Rattle.venue.specs.World.{Limits, Message, Order, Report, Side, World, account, begin_day, counted, held, is_buy, less_left, matched}
-use Rattle.venue.specs.World.{new_order, no_order, nobody, pick, place, with_account, with_money, with_orders}
+use Rattle.venue.specs.World.{new_order, no_order, pick, place, with_account, with_money, with_orders}
 
 -- each order that stands is its owner's
 abbrev pub Owned : (ℕ → ℕ) → List Order → Type 0
@@ -40,8 +39,7 @@ tally_carried : (own : ℕ → ℕ) (m : Message) (w u : World) (o : Order) (rs 
     (held (account u c) k ≡ held (account w c) k +ℤ sum_over (change own c k m) rs) × Owned own u.orders
 unfolding sum_over change less_left with_orders account
 tally_carried own m w u o rs c k e d f (all_gone g) = (omega (arith, ints), f)
-tally_carried own m w u o rs c k e d f (stands g h) =
-    (omega (arith, ints), All-push (λ (o : Order). own o.number ≡ o.account) w.orders o f e)
+tally_carried own m w u o rs c k e d f (stands g h) = search (rules, All-push)
 tally_carried own m w u o rs c k e d f (trades j x t s) =
     let r = tally_carried own m _ u (less_left o x) _ c k e d
     (subst (Owned own) (sym t.orders) (all_taken (λ (o : Order). own o.number ≡ o.account) (λ p y h l. h) j x w.orders f)) s in
@@ -62,18 +60,12 @@ owned_other own a n (o ∷ os) f g = (rw (ne_eqb o.number n f.0) g.0, owned_othe
 
 pub numbers_from : (t : ℕ) (os : List Order) (n : ℕ) → Rising t os n → AllByRecursion (λ (o : Order). t ≤ o.number) os
 numbers_from t [] n r = tt
-numbers_from t (o ∷ os) n r = (
-  r.0,
-  All-weaker (λ (p : Order). suc o.number ≤ p.number) (λ (p : Order). t ≤ p.number) (λ p h. omega (arith, r.0)) os
-      (numbers_from (suc o.number) os n r.1),
-)
+numbers_from t (o ∷ os) n r = search (rules, All-weaker, numbers_from (suc o.number) os n r.1)
 
 pub cash_held : (w : World) (a m : ℕ) (y : ℤ) (c k : ℕ) → a < length w.accounts →
     held (account (with_money (with_account w a (with_cash w a y)) m) c) k ≡ held (account w c) k
 unfolding with_money with_account account held
-cash_held w a m y c k h =
-    ⊎_elim (λ (q : c ≡ a). rw (q, get_or-set_same w.accounts a (with_cash w a y) nobody h) refl)
-    (λ (q : c ≡ a → ⊥). rw (get_or-set_other w.accounts a c (with_cash w a y) nobody q) refl) (cases_eq c a)
+cash_held w a m y c k h = search rules
 
 -- a new order, with its owner known
 pub tally_new : (z : Limits) (w : World) (own : ℕ → ℕ) (c j a k : ℕ) (s : Side) (p q : ℕ) → Turn z (counted w) (new_order w a k s p q) →

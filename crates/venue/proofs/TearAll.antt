@@ -1,10 +1,10 @@
 -- Tearing up in the morning: after it everybody is covered.
-use Rattle.std.proofs.Common.{◌≡◌, ℕ, zero, suc, ◌+◌, ◌<◌, ◌≤◌, true, List, [], ◌∷◌, length, ℤ, pos, negsuc, ◌+ℤ◌, ◌*ℤ◌, neg_ℤ, ◌≤ℤ◌, ap, subst, mul-le-mul_right, arith}
+use Rattle.std.proofs.Common.{◌≡◌, ℕ, zero, suc, ◌+◌, ◌<◌, ◌≤◌, true, List, [], ◌∷◌, length, ℤ, pos, ◌+ℤ◌, ◌*ℤ◌, neg_ℤ, ◌≤ℤ◌, ap, subst, mul-le-mul_right, arith, rules}
 use lib.Signed.{le_z}
 use Rattle.std.proofs.lemmas.Int.{ints}
 use Rattle.venue.proofs.Margins.{need_mono}
 use Rattle.venue.proofs.Opposites.{near_zero}
-use Rattle.venue.proofs.Picks.{by_pick, larger_left, larger_right, larger_within, one_more}
+use Rattle.venue.proofs.Picks.{by_pick, larger_within, one_more}
 use Rattle.venue.proofs.TearUp.{Tears, tear_zero, tears_more, tears_none, tears_tear}
 use Rattle.venue.proofs.Totals.{cash_at}
 use Rattle.venue.specs.Tearing.{Nearer, Tearing, Torn}
@@ -13,13 +13,8 @@ use Rattle.venue.specs.World.{tear, tear_all, tear_items}
 
 -- with products as unknowns
 near_linear : (H H' : ℤ) → Nearer H H' → larger (H' +ℤ pos 0) (neg_ℤ H' +ℤ pos 0) ≤ℤ larger (H +ℤ pos 0) (neg_ℤ H +ℤ pos 0)
-near_linear (pos a) (pos b) f =
-    let l = larger_left (pos a +ℤ pos 0) (neg_ℤ (pos a) +ℤ pos 0) in larger_within _ _ _ (omega (arith, ints)) (omega (arith, ints))
-near_linear (pos a) (negsuc b) f = absurd (omega arith)
-near_linear (negsuc a) (pos b) f =
-    let l = larger_right (negsuc a +ℤ pos 0) (neg_ℤ (negsuc a) +ℤ pos 0) in larger_within _ _ _ (omega (arith, ints)) (omega (arith, ints))
-near_linear (negsuc a) (negsuc b) f =
-    let l = larger_right (negsuc a +ℤ pos 0) (neg_ℤ (negsuc a) +ℤ pos 0) in larger_within _ _ _ (omega (arith, ints)) (omega (arith, ints))
+unfolding larger
+near_linear H H' e = grind (arith, ints)
 
 near_times : (h h' : ℤ) (B : ℕ) → Nearer h h' → Nearer (h *ℤ pos B) (h' *ℤ pos B)
 near_times h h' B f = (omega (arith, ints, mul-le-mul_right B f.0), omega (arith, ints, mul-le-mul_right B f.1))
@@ -31,9 +26,7 @@ near_need c k i h h' f = near_linear (h *ℤ pos i.band) (h' *ℤ pos i.band) (n
 -- without orders, who comes nearer to 0 needs no more, and who holds nothing needs nothing
 torn_need : (w v : World) (c : ℕ) → Torn w v → need v c [] ≤ℤ need w c []
 unfolding need account
-torn_need w v c t =
-    rw t.items (need_mono c 0 w.items (account w c) (account v c) [] []
-    (λ j i l. near_need c j i (held (account w c) j) (held (account v c) j) (t.near c j)))
+torn_need w v c t = search (rules, need_mono, near_need)
 
 zero_need : (c k : ℕ) (is : List Item) (x : Account) → ((j : ℕ) → k ≤ j → j < k + length is → held x j ≡ pos 0) → need_from c k is x [] ≤ℤ pos 0
 unfolding need_from need_in buys sells
@@ -59,7 +52,6 @@ module _ (z : Limits) where
   tears_items (suc f) k a w h g la =
       let v = (tear (length w.accounts) 0 a k w).0 in
       let t = tears_tear z a k (length w.accounts) 0 w (omega arith) g la (omega arith) in
-      let n = t.torn.accounts in
       let m = ap length t.torn.items in
       tears_more z w v (tear_items f (suc k) a v).0 t.torn (tears_items f (suc k) a v (omega arith) t.tearing (omega arith))
 
@@ -71,7 +63,6 @@ module _ (z : Limits) where
   zero_items (suc f) k a w h g la d j l =
       let v = (tear (length w.accounts) 0 a k w).0 in
       let t = tears_tear z a k (length w.accounts) 0 w (omega arith) g la (omega arith) in
-      let n = t.torn.accounts in
       let m = ap length t.torn.items in
       zero_items f (suc k) a v (omega arith) t.tearing (omega arith)
       (one_more (λ (j : ℕ). held (account v a) j ≡ pos 0) k
@@ -82,14 +73,7 @@ module _ (z : Limits) where
   pub tears_all : (f a : ℕ) (w : World) → f + a ≤ length w.accounts → Tearing z w → Tears z w (tear_all f a w).0
   unfolding tear_all
   tears_all zero a w h g = tears_none z w g
-  tears_all (suc f) a w h g =
-      by_pick (λ (y : World × List Report). Tears z w y.0) (covered w a w.orders) _ _
-      (λ e. tears_all f (suc a) w (omega arith) g)
-      (λ e.
-      let v = (tear_items (length w.items) 0 a w).0 in
-      let t = tears_items (length w.items) 0 a w (omega arith) g (omega arith) in
-      let n = t.torn.accounts in
-      tears_more z w v (tear_all f (suc a) v).0 t.torn (tears_all f (suc a) v (omega arith) t.tearing))
+  tears_all (suc f) a w h g = search (rules, tears_all f, tears_more, tears_items)
 
   -- they are covered afterwards, if those before were
   pub covered_all : (f a : ℕ) (w : World) → f + a ≤ length w.accounts → Tearing z w → ((c : ℕ) → c < a → need w c [] ≤ℤ (account w c).cash) →
@@ -106,7 +90,6 @@ module _ (z : Limits) where
       (λ e.
       let v = (tear_items (length w.items) 0 a w).0 in
       let t = tears_items (length w.items) 0 a w (omega arith) g (omega arith) in
-      let n = t.torn.accounts in
       let m = ap length t.torn.items in
       let s = zero_items (length w.items) 0 a w (omega arith) g (omega arith) (λ j l. absurd (omega arith)) in
       covered_all f (suc a) v (omega arith) t.tearing

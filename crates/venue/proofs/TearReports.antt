@@ -18,7 +18,6 @@ tear_reports z (suc f) b a k w h g la lk =
     (opposite (held (account w a) k) (held (account w b) k)) _ _
     (λ e.
     let o = tearing_goes z a k w b g la (omega arith) lk e in
-    let n = o.torn.accounts in
     let m = ap length o.torn.items in
     let r = tear_reports z f (suc b) a k (torn_step w a b k) (omega arith) o.tearing (omega arith) (omega arith) in
     omega (arith, step_holdings z w a b k g la (omega arith) lk e))
@@ -31,7 +30,6 @@ tear_items_reports z zero k a w h g la = omega arith
 tear_items_reports z (suc f) k a w h g la =
     let v = tear (length w.accounts) 0 a k w in
     let t = tears_tear z a k (length w.accounts) 0 w (omega arith) g la (omega arith) in
-    let n = t.torn.accounts in
     let m = ap length t.torn.items in
     let r = tear_items_reports z f (suc k) a v.0 (omega arith) t.tearing (omega arith) in
     let q = tear_reports z (length w.accounts) 0 a k w (omega arith) g la (omega arith) in
@@ -47,7 +45,6 @@ tear_all_reports z (suc f) a w h g =
     (λ e.
     let v = tear_items (length w.items) 0 a w in
     let t = tears_items z (length w.items) 0 a w (omega arith) g (omega arith) in
-    let n = t.torn.accounts in
     let r = tear_all_reports z f (suc a) v.0 (omega arith) t.tearing in
     omega (arith, tear_items_reports z (length w.items) 0 a w (omega arith) g (omega arith), length-append v.1 (tear_all f (suc a) v.0).1))
 

@@ -1,5 +1,5 @@
 -- Tearing up an account: who holds one way while nobody holds the other way holds nothing, since all together hold nothing.
-use Rattle.std.proofs.Common.{◌≡◌, ℕ, zero, suc, ◌+◌, ◌<◌, ◌≤◌, true, ◌≢◌, List, length, get_or, ℤ, pos, negsuc, neg_ℤ, ◌≤ℤ◌, sym, refl, ap, subst, arith}
+use Rattle.std.proofs.Common.{◌≡◌, ℕ, zero, suc, ◌+◌, ◌<◌, ◌≤◌, true, ◌≢◌, List, length, get_or, ℤ, pos, negsuc, neg_ℤ, ◌≤ℤ◌, sym, refl, ap, subst, arith, rules}
 use Rattle.std.specs.List.{AllByRecursion}
 use Rattle.std.proofs.lemmas.Int.{ints}
 use Rattle.std.proofs.ByRecursion.{All-from_get_or}
@@ -44,27 +44,14 @@ module _ (z : Limits) (a k : ℕ) where
   -- one step
   pub tearing_goes : (w : World) (b : ℕ) → Tearing z w → a < length w.accounts → b < length w.accounts → k < length w.items →
       opposite (held (account w a) k) (held (account w b) k) ≡ true → Tears z w (torn_step w a b k)
-  tearing_goes w b g la lb lk e =
-      let t = tear_by (held (account w a) k) (held (account w b) k) e in
-      record {
-        tearing = step_tearing z w a b k (item w k).price (amount w a b k) g refl la lb (opposite_apart w a b k e) lk t;
-        torn = step_torn z w a b k (item w k).price (amount w a b k) g refl la lb (opposite_apart w a b k e) lk t;
-      }
+  tearing_goes w b g la lb lk e = search (rules, tear_by, step_tearing, step_torn, opposite_apart)
 
   -- the steps against f accounts from b on
   pub tears_tear : (f b : ℕ) (w : World) → f + b ≤ length w.accounts → Tearing z w → a < length w.accounts → k < length w.items →
       Tears z w (tear f b a k w).0
   unfolding tear
   tears_tear zero b w h g la lk = tears_none z w g
-  tears_tear (suc f) b w h g la lk =
-      by_pick (λ (y : World × List Report). Tears z w y.0) (opposite (held (account w a) k) (held (account w b) k)) _ _
-      (λ e.
-      let v = torn_step w a b k in
-      let o = tearing_goes w b g la (omega arith) lk e in
-      let n = o.torn.accounts in
-      let m = ap length o.torn.items in
-      tears_more z w v (tear f (suc b) a k v).0 o.torn (tears_tear f (suc b) v (omega arith) o.tearing (omega arith) (omega arith)))
-      (λ e. tears_tear f (suc b) w (omega arith) g la lk)
+  tears_tear (suc f) b w h g la lk = search (rules, tears_tear f, tears_more, tearing_goes)
 
   pub against_more : (w : World) (b : ℕ) → Tearing z w → a < length w.accounts → b < length w.accounts → k < length w.items →
       opposite (held (account w a) k) (held (account w b) k) ≡ true → AgainstNone w a k b → AgainstNone (torn_step w a b k) a k (suc b)
@@ -90,7 +77,6 @@ module _ (z : Limits) (a k : ℕ) where
       (opposite (held (account w a) k) (held (account w b) k)) _ _
       (λ e.
       let o = tearing_goes w b g la (omega arith) lk e in
-      let n = o.torn.accounts in
       let m = ap length o.torn.items in
       against_tear f (suc b) (torn_step w a b k) (omega arith) o.tearing (omega arith) (omega arith)
       (against_more w b g la (omega arith) lk e d) c (omega arith))
@@ -124,6 +110,5 @@ unfolding account
 tear_zero z a k w g la lk =
     let v = (tear (length w.accounts) 0 a k w).0 in
     let r = tears_tear z a k (length w.accounts) 0 w (omega arith) g la lk in
-    let n = r.torn.accounts in
     holds_nothing k v.accounts a (omega arith) (r.tearing.inv.held k)
     (λ c l. against_tear z a k (length w.accounts) 0 w (omega arith) g la lk (λ c l. absurd (omega arith)) c (omega arith))

@@ -1,5 +1,5 @@
 -- One step of tearing up, in the market: money stays, holdings come nearer to 0, and the market is as it should be.
-use Rattle.std.proofs.Common.{◌≡◌, ℕ, ◌+◌, ◌<◌, ◌≤◌, false, ◌≢◌, List, [], length, ℤ, pos, ◌+ℤ◌, neg_ℤ, ◌≤ℤ◌, sym, refl, ap, ◌∙◌, subst, ⊎_elim, arith}
+use Rattle.std.proofs.Common.{◌≡◌, ℕ, ◌+◌, ◌<◌, ◌≤◌, false, ◌≢◌, List, [], length, ℤ, pos, ◌+ℤ◌, neg_ℤ, ◌≤ℤ◌, sym, refl, ap, ◌∙◌, subst, arith, rules}
 use Rattle.std.specs.List.{AllByRecursion}
 use Rattle.std.proofs.lemmas.Int.{ints}
 use Rattle.std.proofs.ByRecursion.{All-from_get_or}
@@ -16,30 +16,10 @@ use Rattle.venue.specs.Tearing.{Nearer, Tearing, Torn}
 use Rattle.venue.specs.World.{Account, Item, Limits, Order, World, abs, account, gets, held, item, nobody, standing, with_account}
 
 pub torn_none : (w : World) → Torn w w
-torn_none w =
-    record {
-      items = refl;
-      accounts = refl;
-      orders = refl;
-      next = refl;
-      money = refl;
-      trading = refl;
-      cash = λ c. refl;
-      near = λ c k. near_same (held (account w c) k);
-    }
+torn_none w = search (rules, near_same)
 
 pub torn_more : (w v u : World) → Torn w v → Torn v u → Torn w u
-torn_more w v u f g =
-    record {
-      items = g.items ∙ f.items;
-      accounts = g.accounts ∙ f.accounts;
-      orders = g.orders ∙ f.orders;
-      next = g.next ∙ f.next;
-      money = g.money ∙ f.money;
-      trading = g.trading ∙ f.trading;
-      cash = λ c. g.cash c ∙ f.cash c;
-      near = λ c k. (omega (arith, f.near c k, g.near c k), omega (arith, f.near c k, g.near c k));
-    }
+torn_more w v u f g = search rules
 
 -- nobody holds or owes more than before
 pub torn_held : (w v : World) (c k : ℕ) → Torn w v → abs (held (account v c) k) ≤ abs (held (account w c) k)
@@ -49,23 +29,7 @@ torn_held w v c k t = abs_near (held (account w c) k) (held (account v c) k) (t.
 torn_gets : (w : World) (a k : ℕ) (x : ℤ) (p : ℕ) → (item w k).price ≡ p → a < length w.accounts → k < length (account w a).holds →
     Nearer (held (account w a) k) (held (account w a) k +ℤ x) → Torn w (gets w a k x p)
 unfolding gets with_account
-torn_gets w a k x p q ha hk f =
-    record {
-      items = refl;
-      accounts = many_gets w a k x p;
-      orders = refl;
-      next = refl;
-      money = refl;
-      trading = refl;
-      cash = λ c. ⊎_elim
-          (λ (e : c ≡ a). rw (e, account_same w a k x p ha) (cash_after w a k x p ∙ rw q (no_gain x p (account w a).cash)))
-          (λ (e : c ≡ a → ⊥). ap (λ (y : Account). y.cash) (account_other w a k x p c e)) (cases_eq c a);
-      near = λ c j. ⊎_elim
-          (λ (e : c ≡ a). rw (e, account_same w a k x p ha)
-          (⊎_elim (λ (d : j ≡ k). rw (held_there w a k x p j hk d) (rw d f))
-          (λ (d : j ≡ k → ⊥). rw (held_elsewhere w a k x p j hk d) (near_same (held (account w a) j))) (cases_eq j k)))
-          (λ (e : c ≡ a → ⊥). rw (account_other w a k x p c e) (near_same (held (account w c) j))) (cases_eq c a);
-    }
+torn_gets w a k x p q ha hk f = search (rules, many_gets, account_same, account_other, cash_after, no_gain, held_there, held_elsewhere, near_same, cases_eq)
 
 -- without trading nothing else can go wrong
 tearing_from : (z : Limits) (w v : World) → Tearing z w → Torn w v → Swapped w v → Tearing z v

@@ -16,7 +16,7 @@ total_set : (f : Account → ℤ) (xs : List Account) (a : ℕ) (x : Account) �
 unfolding total
 total_set f [] a x h = absurd (omega arith)
 total_set f (y ∷ ys) zero x h = omega (arith, ints)
-total_set f (y ∷ ys) (suc a) x h = let e = total_set f ys a x (omega arith) in omega (arith, ints)
+total_set f (y ∷ ys) (suc a) x h = omega (arith, ints, total_set f ys a x (omega arith))
 
 -- while none is below 0, none is more than all together
 total_0 : (f : Account → ℤ) (xs : List Account) → AllByRecursion (λ (x : Account). pos 0 ≤ℤ f x) xs → pos 0 ≤ℤ total f xs

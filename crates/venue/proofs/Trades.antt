@@ -1,8 +1,7 @@
 -- A trade: two orders that meet, each carried out in part. One argument for both sides, by what a buyer or a seller gets.
-use Rattle.std.proofs.Common.{◌≡◌, ℕ, ◌+◌, ◌<◌, ◌≤◌, Bool, true, false, not, List, length, ℤ, pos, ◌+ℤ◌, neg_ℤ, refl, subst, arith}
+use Rattle.std.proofs.Common.{◌≡◌, ℕ, ◌+◌, ◌<◌, ◌≤◌, Bool, true, false, not, List, length, ℤ, pos, ◌+ℤ◌, neg_ℤ, subst, arith, rules}
 use Rattle.std.specs.List.{AllByRecursion}
 use Rattle.std.proofs.lemmas.Int.{ints}
-use Rattle.std.proofs.lemmas.Bool.{both_ways}
 use Rattle.venue.proofs.Covering.{paid_buy, paid_more, paid_sell}
 use Rattle.venue.proofs.Crossing.{meets_buy, meets_sell}
 use Rattle.venue.proofs.Gets.{items_gets, many_gets, wide_at, wide_gets}
@@ -11,7 +10,7 @@ use Rattle.venue.proofs.Swaps.{Swapped, swapped}
 use Rattle.venue.proofs.Weights.{Less, part}
 use Rattle.venue.specs.Invariant.{Placed, Wide, Within}
 use Rattle.venue.specs.Trade.{PaidFor}
-use Rattle.venue.specs.World.{Order, World, abs, account, gets, is_buy, item, meets, pick, taken, traded, with_orders}
+use Rattle.venue.specs.World.{Order, World, abs, account, gets, is_buy, item, meets, taken, traded, with_orders}
 
 -- what a buyer, or a seller, gets by a trade of x
 abbrev pub moved : Bool → ℕ → ℤ
@@ -31,12 +30,7 @@ pub record Fit (w : World) (o r : Order) (b : Bool) : Type 0 where
 
 pub fit_meets : (w : World) (o r : Order) → AllByRecursion (Wide (length w.items)) w.accounts → Placed (length w.accounts) w.items o →
     Placed (length w.accounts) w.items r → meets o r ≡ true → (b : Bool) → is_buy o.side ≡ b → Fit w o r b
-fit_meets w o r f ho hr m true e =
-    let q = meets_buy o r e m in
-    record { wide = f; one = ho; two = hr; same = q.0; side = e; other = q.1; low = λ t. q.2; high = λ t. absurd (both_ways true t refl) }
-fit_meets w o r f ho hr m false e =
-    let q = meets_sell o r e m in
-    record { wide = f; one = ho; two = hr; same = q.0; side = e; other = q.1; low = λ t. absurd (both_ways false refl t); high = λ t. q.2 }
+fit_meets w o r f ho hr m b e = search (rules, meets_buy, meets_sell)
 
 -- a gets, then b
 abbrev pub two_get : World → Order → Order → ℕ → Bool → World
@@ -45,30 +39,20 @@ two_get w o r x b = gets (gets w o.account o.item (moved b x) r.price) r.account
 pub traded_is : (w : World) (o r : Order) (j x : ℕ) →
     traded w o r j x ≡ two_get (with_orders w (taken j x w.orders)) o r x (is_buy o.side)
 unfolding traded
-traded_is w o r j x = either_way (is_buy o.side)
-  where
-    v : World
-    v = with_orders w (taken j x w.orders)
-
-    either_way : (b : Bool) → pick b (two_get v o r x true) (two_get v o r x false) ≡ two_get v o r x b
-    either_way true = refl
-    either_way false = refl
+traded_is w o r j x = search rules
 
 -- the order u is carried out for p
 paid_side : (w : World) (u : Order) (p : ℕ) (os os' : List Order) (b : Bool) → is_buy u.side ≡ b → u.account < length w.accounts →
     u.item < length w.items → u.item < length (account w u.account).holds → Less os os' u → (b ≡ true → p ≤ u.price) →
     (b ≡ false → u.price ≤ p) → p ≤ (item w u.item).price + (item w u.item).band → (item w u.item).price ≤ p + (item w u.item).band →
     PaidFor w os (gets w u.account u.item (moved b u.left) p) os'
-paid_side w u p os os' true e ha hk hh f g h c d = paid_buy w u p os os' e ha hk hh f (g refl) c
-paid_side w u p os os' false e ha hk hh f g h c d = paid_sell w u p os os' e ha hk hh f (h refl) d
+paid_side w u p os os' b e f g h l m q r t = grind (arith, ints, paid_buy, paid_sell)
 
 abs_moved : (b : Bool) (x : ℕ) (h : ℤ) → abs (h +ℤ moved b x) ≤ abs h + x
-abs_moved true x h = abs_more h x
-abs_moved false x h = abs_less h x
+abs_moved b x h = grind (arith, ints, abs_more, abs_less)
 
 moved_cancel : (b : Bool) (x : ℕ) → moved b x +ℤ moved (not b) x ≡ pos 0
-moved_cancel true x = omega (arith, ints)
-moved_cancel false x = omega (arith, ints)
+moved_cancel b x = grind (arith, ints)
 
 module _ (w : World) (o r : Order) (x : ℕ) (b : Bool) (f : Fit w o r b) where
   abbrev w1 : World
@@ -81,18 +65,10 @@ module _ (w : World) (o r : Order) (x : ℕ) (b : Bool) (f : Fit w o r b) where
   deep = omega (arith, wide_at (length w.items) w o.account f.one.0 f.wide, f.one.1)
 
   deep1 : r.item < length (account w1 r.account).holds
-  deep1 =
-      omega (
-        arith,
-        f.two.1,
-        wide_at (length w.items) w1 r.account lr
-            (wide_gets (length w.items) w o.account o.item (moved b x) r.price f.one.0 f.wide),
-      )
+  deep1 = search (rules, wide_at, lr, wide_gets)
 
   pub two_swapped : Swapped w (two_get w o r x b)
-  two_swapped =
-      swapped (length w.items) w o.account r.account o.item (moved b x) (moved (not b) x) r.price
-      (moved_cancel b x) f.one.0 f.two.0 f.one.1 f.wide
+  two_swapped = search (rules, swapped, moved_cancel)
 
   pub two_paid : (os os1 os2 : List Order) → Less os os1 (part o x) → Less os1 os2 (part r x) → PaidFor w os (two_get w o r x b) os2
   unfolding item

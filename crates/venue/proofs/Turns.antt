@@ -1,10 +1,9 @@
 -- The turns of `matched`: what holds at its start, after each trade, and at its end.
-use Rattle.std.proofs.Common.{◌≡◌, ℕ, ◌+◌, ◌<◌, ◌≤◌, true, [], ◌∷◌, ◌++◌, length, sym, refl, ⊎_elim, arith}
+use Rattle.std.proofs.Common.{◌≡◌, ℕ, ◌+◌, ◌<◌, ◌≤◌, true, [], ◌∷◌, ◌++◌, length, ⊎_elim, arith, rules}
 use Rattle.std.proofs.lemmas.Int.{ints}
 use Rattle.std.proofs.lemmas.Bool.{cases_eq}
 use Rattle.venue.proofs.Margins.{other_need}
 use Rattle.venue.proofs.Released.{standing_push}
-use Rattle.venue.proofs.Standing.{other_account, other_item, own_standing}
 use Rattle.venue.specs.Invariant.{Cover, Inv, Within}
 use Rattle.venue.specs.Turn.{Turn, may_place}
 use Rattle.venue.specs.World.{Limits, Order, Side, World, abs, account, counted, covered, held, item, need, new_order, standing}
@@ -24,20 +23,7 @@ pub record Tells (z : Limits) (w : World) (a k : ℕ) (s : Side) (p q : ℕ) : T
   pub cover : covered w a (w.orders ++ new_order w a k s p q ∷ []) ≡ true
 
 pub place_tells : (z : Limits) (w : World) (a k : ℕ) (s : Side) (p q : ℕ) → may_place z w a k s p q ≡ true → Tells z w a k s p q
-place_tells z w a k s p q e =
-    record {
-      trading = grind arith;
-      account_in = grind arith;
-      item_in = grind arith;
-      some = grind arith;
-      most = grind arith;
-      low = grind arith;
-      high = grind arith;
-      room = grind arith;
-      number = grind arith;
-      holding = grind arith;
-      cover = grind arith;
-    }
+place_tells z w a k s p q e = search rules
 
 cover_new : (w : World) (o : Order) → Cover w w.orders → covered w o.account (w.orders ++ o ∷ []) ≡ true →
     Cover (counted w) (w.orders ++ o ∷ [])
@@ -50,35 +36,13 @@ pub within_new : (H : ℕ) (w : World) (o : Order) → Within H w w.orders →
     abs (held (account w o.account) o.item) + standing o.account o.item w.orders + o.left ≤ H →
     Within H (counted w) (w.orders ++ o ∷ [])
 unfolding counted account
-within_new H w o v h c k l =
-    let a = standing_push c k w.orders o in
-    ⊎_elim
-    (λ (e : c ≡ o.account). ⊎_elim
-    (λ (d : k ≡ o.item). rw (e, d) (omega (arith, h, standing_push o.account o.item w.orders o, own_standing o o.item refl)))
-    (λ (d : k ≡ o.item → ⊥). omega (arith, other_item c k o (λ q. d (sym q)), v c k l)) (cases_eq k o.item))
-    (λ (e : c ≡ o.account → ⊥). omega (arith, other_account c k o (λ q. e (sym q)), v c k l)) (cases_eq c o.account)
+within_new H w o v h c k l = search (rules, standing_push)
 
 pub turn_starts : (z : Limits) (w : World) (a k : ℕ) (s : Side) (p q : ℕ) → Inv z w → may_place z w a k s p q ≡ true →
     Turn z (counted w) (new_order w a k s p q)
 unfolding new_order counted item
 turn_starts z w a k s p q i e =
     let t = place_tells z w a k s p q e in
-    record {
-      wide = i.wide;
-      placed = i.placed;
-      order = (t.account_in, t.item_in, t.low, t.high);
-      left = i.left;
-      most = t.most;
-      numbers = i.numbers;
-      number = refl;
-      cash = i.cash;
-      held = i.held;
-      cover = cover_new w (new_order w a k s p q) (i.cover t.trading) t.cover;
-      calm = i.calm;
-      items = i.items;
-      holds = within_new z.holding w (new_order w a k s p q) i.holds t.holding;
-      room = t.room;
-      money = i.money;
-      next = t.number;
-      trading = t.trading;
-    }
+    let c = cover_new w (new_order w a k s p q) (i.cover t.trading) t.cover in
+    let h = within_new z.holding w (new_order w a k s p q) i.holds t.holding in
+    search (rules, c, h)

@@ -1,48 +1,36 @@
 // Laws of the day's beginning and end, and of what can be lost between, by which a wrong rule would be seen. Each function's contract is a statement of
-// specs/; the value is of no use.
+// specs/.
 ghost use Rattle.venue.specs.Days.{WorkedDays};
 ghost use Rattle.venue.specs.Loss.{NeedIsEnough, NeedIsReached};
 ghost use Rattle.venue.specs.Morning.{DayBegins};
 ghost use Rattle.venue.specs.Settlement.{EndDayTaken, EndDaySettles};
 
 // Some worked days end as they should.
-pub fn days_are_worked() -> u8
+pub fn days_are_worked()
     ensures { WorkedDays }
-{
-    0
-}
+{}
 
 // A day's end is taken exactly if there is trading and each new price lies within its item's band.
-pub fn end_of_day_is_taken() -> u8
+pub fn end_of_day_is_taken()
     ensures { EndDayTaken }
-{
-    0
-}
+{}
 
 // Then every holding's gain or loss is paid to the last unit.
-pub fn end_of_day_settles() -> u8
+pub fn end_of_day_settles()
     ensures { EndDaySettles }
-{
-    0
-}
+{}
 
 // However the day goes on, within the bands, no account loses more than it needs.
-pub fn need_is_enough() -> u8
+pub fn need_is_enough()
     ensures { NeedIsEnough }
-{
-    0
-}
+{}
 
 // And it can go on so that an account loses just that.
-pub fn need_is_reached() -> u8
+pub fn need_is_reached()
     ensures { NeedIsReached }
-{
-    0
-}
+{}
 
 // A morning tears up just those who are not covered at their turn, at the holdings of the moment, and leaves everybody covered.
-pub fn day_begins_justly() -> u8
+pub fn day_begins_justly()
     ensures { DayBegins }
-{
-    0
-}
+{}

@@ -1,54 +1,39 @@
-// What members can tell from their messages and reports alone, by which a wrong rule would be seen. Each function's contract is a statement of specs/;
-// the value is of no use.
+// What members can tell from their messages and reports alone, by which a wrong rule would be seen. Each function's contract is a statement of specs/.
 ghost use Rattle.venue.specs.Payment.{CashByReports, PayInTaken, PayOutTaken, PaymentsMove};
 ghost use Rattle.venue.specs.Positions.{HeldByReports};
 ghost use Rattle.venue.specs.Refusal.{AnsweredOnce, RefusedChangesNothing};
 
 // All cash is what was paid in less what was paid out, by the messages that were taken.
-pub fn cash_is_by_reports() -> u8
+pub fn cash_is_by_reports()
     ensures { CashByReports }
-{
-    0
-}
+{}
 
 // A message has one first report, done or refused, and a refusal is its only one.
-pub fn messages_are_answered_once() -> u8
+pub fn messages_are_answered_once()
     ensures { AnsweredOnce }
-{
-    0
-}
+{}
 
 // A message that is refused changes nothing.
-pub fn refusals_change_nothing() -> u8
+pub fn refusals_change_nothing()
     ensures { RefusedChangesNothing }
-{
-    0
-}
+{}
 
 // A payment in is taken exactly if there is the account, something is paid, and all money stays within the limit.
-pub fn pay_in_is_taken() -> u8
+pub fn pay_in_is_taken()
     ensures { PayInTaken }
-{
-    0
-}
+{}
 
 // A payment out is taken exactly if there is the account, something is paid, and the rest covers what the account needs.
-pub fn pay_out_is_taken() -> u8
+pub fn pay_out_is_taken()
     ensures { PayOutTaken }
-{
-    0
-}
+{}
 
 // A payment that is taken moves that account's money, and nothing else.
-pub fn payments_move_cash() -> u8
+pub fn payments_move_cash()
     ensures { PaymentsMove }
-{
-    0
-}
+{}
 
 // What an account holds of an item is what the reports of trades and tear-ups say.
-pub fn holdings_are_by_reports() -> u8
+pub fn holdings_are_by_reports()
     ensures { HeldByReports }
-{
-    0
-}
+{}

@@ -16,5 +16,5 @@ ghost use Rattle.venue.specs.World.{lesser};
 pub fn traded(a: u64, b: u64) -> u64
     ensures { result ≡ lesser a b }
 {
-    if a < b { a } else { b }
+    a.min(b)
 }
