@@ -4,23 +4,23 @@ use std::alloc::Global;
 use wire::{Item, Message, Side, write_end_day, write_message};
 
 // A message of a worked day; an end of day brings its item's price and band with it.
-#[derive(Clone, Copy)]
-pub enum Told {
+#[derive(Clone, Copy, Debug, PartialEq, Eq)]
+pub enum Step {
     Say(Message),
     Evening(Item),
 }
 
-// Every account pays in `paid`, if that is above 0; then comes the first morning, then what is told.
-#[derive(Clone, Copy)]
+// Every account pays in `paid`, if there is that; then comes the first morning, then what is told.
+#[derive(Clone, Copy, Debug, PartialEq, Eq)]
 pub struct Day<'a> {
     pub name: &'a str,
     pub accounts: u16,
-    pub paid: u64,
-    pub told: &'a [Told],
+    pub paid: Option<u64>,
+    pub steps: &'a [Step],
 }
 
-fn place(account: u16, side: Side, quantity: u32, price: u32) -> Told {
-    Told::Say(Message::Place {
+fn place(account: u16, side: Side, quantity: u32, price: u32) -> Step {
+    Step::Say(Message::Place {
         account,
         item: 0,
         side,
@@ -29,51 +29,47 @@ fn place(account: u16, side: Side, quantity: u32, price: u32) -> Told {
     })
 }
 
-pub(crate) fn buy(account: u16, quantity: u32, price: u32) -> Told {
+pub(crate) fn buy(account: u16, quantity: u32, price: u32) -> Step {
     place(account, Side::Buy, quantity, price)
 }
 
-pub(crate) fn sell(account: u16, quantity: u32, price: u32) -> Told {
+pub(crate) fn sell(account: u16, quantity: u32, price: u32) -> Step {
     place(account, Side::Sell, quantity, price)
 }
 
-pub(crate) fn pay_out(account: u16, amount: u64) -> Told {
-    Told::Say(Message::PayOut { account, amount })
+pub(crate) fn pay_out(account: u16, amount: u64) -> Step {
+    Step::Say(Message::PayOut { account, amount })
 }
 
-pub(crate) fn evening(price: u32, band: u32) -> Told {
-    Told::Evening(Item { price, band })
+pub(crate) fn evening(price: u32, band: u32) -> Step {
+    Step::Evening(Item { price, band })
 }
 
-pub(crate) fn morning() -> Told {
-    Told::Say(Message::BeginDay)
+pub(crate) fn morning() -> Step {
+    Step::Say(Message::BeginDay)
 }
 
 // Writes one message behind the bytes.
-fn put(bytes: &mut Vec<u8>, told: Told) -> anyhow::Result<()> {
-    let wrote = match told {
-        Told::Say(message) => write_message(&message, &[], 1, bytes),
-        Told::Evening(item) => write_end_day(&[item], bytes),
+fn put(bytes: &mut Vec<u8>, step: Step) -> anyhow::Result<()> {
+    let wrote = match step {
+        Step::Say(message) => write_message(&message, &[], 1, bytes),
+        Step::Evening(item) => write_end_day(&[item], bytes),
     };
-    match wrote {
-        Ok(()) => Ok(()),
-        Err(_) => Err(anyhow!("no memory for the messages")),
-    }
+    wrote.map_err(|_| anyhow!("no memory for the messages"))
 }
 
 impl Day<'_> {
     // The bytes of all its messages.
     pub(crate) fn bytes(&self, heap: Global) -> anyhow::Result<Vec<u8>> {
         let mut bytes = Vec::new(heap);
-        if self.paid > 0 {
+        if let Some(amount) = self.paid {
             for account in 0..self.accounts {
-                let amount = self.paid;
-                put(&mut bytes, Told::Say(Message::PayIn { account, amount }))?;
+                put(&mut bytes, Step::Say(Message::PayIn { account, amount }))?;
             }
         }
         put(&mut bytes, morning())?;
-        for told in self.told {
-            put(&mut bytes, *told)?;
+        for step in self.steps {
+            put(&mut bytes, *step)?;
         }
         Ok(bytes)
     }

@@ -1,25 +1,22 @@
 -- A disc that is not refused holds numbers in range.
-use Rattle.std.proofs.Common.{◌≡◌, ℕ, zero, suc, ◌+◌, ◌*◌, ◌≤◌, Bool, true, false, cond, not, ◌&&◌, ltb, List, map, length, take, Some, None, Option, refl, ap, ◌∙◌, arith}
+use Rattle.std.proofs.Common.{◌≡◌, ℕ, zero, suc, ◌+◌, ◌*◌, ◌≤◌, Bool, true, false, cond, not, ◌&&◌, ltb, List, map, length, Some, None, Option, refl, arith}
 use Rattle.std.proofs.lemmas.Bool.{and_parts, ltb-false, or_parts}
 use Rattle.std.proofs.lemmas.Bool.Decides.{nat_tests}
 use Rattle.wire.specs.Means.{item_of}
 use Rattle.wire.specs.Number.{four}
 use Rattle.wire.specs.declared.item.Item.{Item}
 use Rattle.disc.proofs.Steps.{length_items_from}
-use Rattle.disc.proofs.Refusals.{taken}
-use Rattle.disc.specs.Block0.{header_refusal, bad_number, bad_item, bad_length, items_from, items_on, accounts_on, orders_on, money_on, numbers_on}
+use Rattle.disc.specs.Block0.{bad_number, bad_item, bad_length, items_from, items_on, accounts_on, orders_on, money_on, numbers_on}
 use Rattle.disc.specs.Layout.{needed_bytes}
-use Rattle.disc.specs.Numbers.{in_range, numbers_from, counts_fit, items_fit, price_fits, band_fits, count_fits, accounts_fit, orders_fit, money_fits}
+use Rattle.disc.specs.Sizes.{AreSizesOn}
+use Rattle.disc.specs.declared.layout.Sizes.{Sizes}
+use Rattle.disc.specs.Numbers.{in_range, numbers_of, counts_fit, items_fit, price_fits, band_fits, count_fits, accounts_fit, orders_fit, money_fits}
 
 four_tests :
     (a b c d : Bool) (o : Option ℕ) →
     cond (not a) (Some 4) (cond (not b) (Some 8) (cond (not c) (Some 12) (cond (not d) (Some 16) o))) ≡ None →
     ((a && (b && (c && d))) ≡ true) × (o ≡ None)
-four_tests true true true true o e = (refl, e)
-four_tests true true true false o e = absurd (let z : ◌≡◌ {A = ℕ} 0 1 = cc in omega arith)
-four_tests true true false d o e = absurd (let z : ◌≡◌ {A = ℕ} 0 1 = cc in omega arith)
-four_tests true false c d o e = absurd (let z : ◌≡◌ {A = ℕ} 0 1 = cc in omega arith)
-four_tests false b c d o e = absurd (let z : ◌≡◌ {A = ℕ} 0 1 = cc in omega arith)
+four_tests a b c d o e = (grind arith, grind arith)
 
 pub counts_from :
     (bs : List ℕ) → bad_number bs ≡ None →
@@ -30,9 +27,7 @@ counts_from bs e =
 item_tests :
     (p b : Bool) (i : ℕ) (o : Option ℕ) →
     cond false None (cond (not p) (Some i) (cond false None (cond (not b) (Some (i + 4)) o))) ≡ None → ((p && b) ≡ true) × (o ≡ None)
-item_tests true true i o e = (refl, e)
-item_tests true false i o e = absurd (let z : ◌≡◌ {A = ℕ} 0 1 = cc in omega arith)
-item_tests false b i o e = absurd (let z : ◌≡◌ {A = ℕ} 0 1 = cc in omega arith)
+item_tests p b i o e = (grind arith, grind arith)
 
 pub items_from_fit : (bs : List ℕ) (i n : ℕ) → i + 8 * n ≤ length bs → bad_item bs i n ≡ None → items_fit (items_from bs i n) ≡ true
 unfolding items_fit bad_item items_from
@@ -43,57 +38,32 @@ items_from_fit bs i (suc n) h e =
     let f = item_tests (price_fits (four bs i)) (band_fits (four bs i) (four bs (i + 4))) i (bad_item bs (i + 8) n) (rw (whole_price, whole_band) at e) in
     rw f.0 (items_from_fit bs (i + 8) n (omega arith) f.1)
 
--- what is known of the numbers of a disc that is not refused
-pub record Held (bs : List ℕ) : Type 0 where
-  pub long : 512 ≤ length bs
-  pub few : items_on bs ≤ 256
-  pub whole : 24 + 8 * items_on bs ≤ length bs
-  pub counts : counts_fit (items_on bs) (accounts_on bs) (orders_on bs) (money_on bs) ≡ true
-  pub items : items_fit (items_from bs 24 (items_on bs)) ≡ true
-
-pub few_of : (n a o m : ℕ) → counts_fit n a o m ≡ true → n ≤ 256
-few_of n a o m e = grind (arith, nat_tests)
-
 whole_if : (n a o l : ℕ) → needed_bytes n a o ≤ l → 24 + 8 * n ≤ l
 whole_if n a o l h = omega arith
 
-whole_of : (bs : List ℕ) → bad_length bs ≡ false → 24 + 8 * items_on bs ≤ length bs
+-- the items lie whole in a disc that is long enough
+pub whole_of : (bs : List ℕ) → bad_length bs ≡ false → 24 + 8 * items_on bs ≤ length bs
 whole_of bs e =
     whole_if (items_on bs) (accounts_on bs) (orders_on bs) (length bs)
     (ltb-false (length bs) (needed_bytes (items_on bs) (accounts_on bs) (orders_on bs)) (or_parts _ _ e).1)
 
-pub held : (bs : List ℕ) → header_refusal bs ≡ None → Held bs
-held bs e =
-    let t = taken bs e in
-    let f = counts_from bs t.numbers in
-    let few : items_on bs ≤ 256 = few_of (items_on bs) (accounts_on bs) (orders_on bs) (money_on bs) f.0 in
-    let whole : 24 + 8 * items_on bs ≤ length bs = whole_of bs t.sized in
-    record { long = t.long; few = few; whole = whole; counts = f.0; items = items_from_fit bs 24 (items_on bs) whole f.1 }
-
-range_on : (bs : List ℕ) → Held bs → in_range (numbers_on bs) ≡ true
+pub range_on : (bs : List ℕ) → bad_number bs ≡ None → bad_length bs ≡ false → in_range (numbers_on bs) ≡ true
 unfolding numbers_on
-range_on bs h = rw (length_items_from bs 24 (items_on bs), h.counts) h.items
+range_on bs e f =
+    let counts = counts_from bs e in
+    rw (length_items_from bs 24 (items_on bs), counts.0) (items_from_fit bs 24 (items_on bs) (whole_of bs f) counts.1)
 
 pub same_numbers :
-    (bs : List ℕ) (n a o m : ℕ) (is : List Item) → n ≡ items_on bs → a ≡ accounts_on bs → o ≡ orders_on bs → m ≡ money_on bs →
-    map item_of (take n is) ≡ items_from bs 24 n → numbers_from n is a o m ≡ numbers_on bs
+    (bs : List ℕ) (s : Sizes) (m : ℕ) (is : List Item) → AreSizesOn bs s → m ≡ money_on bs →
+    map item_of is ≡ items_from bs 24 s.items → numbers_of is s.accounts s.orders m ≡ numbers_on bs
 unfolding numbers_on
-same_numbers bs n a o m is en ea eo em e = cc
-
-pub numbers_in_range :
-    (bs : List ℕ) (n a o m : ℕ) (is : List Item) → Held bs → n ≡ items_on bs → a ≡ accounts_on bs → o ≡ orders_on bs → m ≡ money_on bs →
-    map item_of (take n is) ≡ items_from bs 24 n → in_range (numbers_from n is a o m) ≡ true
-numbers_in_range bs n a o m is h en ea eo em e = ap in_range (same_numbers bs n a o m is en ea eo em e) ∙ range_on bs h
+same_numbers bs s m is on em e = rw (e, on.items, on.accounts, on.orders, em)
 
 -- and the other way round
 four_tests_pass :
     (a b c d : Bool) (o : Option ℕ) → (a && (b && (c && d))) ≡ true → o ≡ None →
     cond (not a) (Some 4) (cond (not b) (Some 8) (cond (not c) (Some 12) (cond (not d) (Some 16) o))) ≡ None
-four_tests_pass true true true true o e f = f
-four_tests_pass true true true false o e f = absurd (let z : ◌≡◌ {A = ℕ} 0 1 = cc in omega arith)
-four_tests_pass true true false d o e f = absurd (let z : ◌≡◌ {A = ℕ} 0 1 = cc in omega arith)
-four_tests_pass true false c d o e f = absurd (let z : ◌≡◌ {A = ℕ} 0 1 = cc in omega arith)
-four_tests_pass false b c d o e f = absurd (let z : ◌≡◌ {A = ℕ} 0 1 = cc in omega arith)
+four_tests_pass a b c d o e f = grind arith
 
 pub no_bad_number :
     (bs : List ℕ) → counts_fit (items_on bs) (accounts_on bs) (orders_on bs) (money_on bs) ≡ true → bad_item bs 24 (items_on bs) ≡ None →

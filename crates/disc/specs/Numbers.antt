@@ -1,5 +1,5 @@
 -- The numbers that a market begins with, and the ranges that they must lie in. Assumes nothing: these are definitions.
-use Rattle.std.specs.Prelude.{ℕ, Bool, true, ◌&&◌, List, [], ◌∷◌, map, length, take, nat_le}
+use Rattle.std.specs.Prelude.{ℕ, Bool, true, ◌&&◌, List, [], ◌∷◌, map, length, nat_le}
 use Rattle.venue.specs.World as world
 use Rattle.wire.specs.Means.{item_of}
 use Rattle.wire.specs.declared.item.Item.{Item}
@@ -50,12 +50,9 @@ counts_fit n a o m = count_fits n && (accounts_fit a && (orders_fit o && money_f
 abbrev pub in_range : Numbers → Bool
 in_range n = counts_fit (length n.items) n.accounts n.orders n.money && items_fit n.items
 
--- the numbers that a row of items and three more give, and where only the first so many items of the row are meant
+-- the numbers that a row of items and three more give
 abbrev pub numbers_of : List Item → ℕ → ℕ → ℕ → Numbers
 numbers_of is a o m = record { items = map item_of is; accounts = a; orders = o; money = m }
-
-abbrev pub numbers_from : ℕ → List Item → ℕ → ℕ → ℕ → Numbers
-numbers_from n is a o m = numbers_of (take n is) a o m
 
 -- the limits of a market that begins with these numbers and has these kinds of messages
 abbrev pub limits_of : Numbers → (ℕ → Bool) → world.Limits

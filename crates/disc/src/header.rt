@@ -1,26 +1,50 @@
 // The numbers that a market begins with, all in range.
-ghost use Rattle.std.specs.Prelude.{◌≡◌, ◌≤◌, true, length};
-ghost use Rattle.disc.specs.Numbers.{in_range, numbers_from};
+ghost use Rattle.std.specs.Prelude.{◌≡◌, true, ⊤, Some, codes};
+ghost use Rattle.disc.specs.Few.{few_items};
+ghost use Rattle.disc.specs.Numbers.{in_range, numbers_of};
 
+use crate::few::{Few, NoRoom};
+use std::error::Error;
+use std::fmt;
 use wire::Item;
 
 pub mod fields;
 pub mod making;
+mod ranges;
 pub mod reading;
 
-#[derive(Clone, Copy)]
+// What lies where there is room for an item and none is meant.
+pub const BLANK: Item = Item { price: 0, band: 0 };
+
+#[derive(Clone, Copy, Debug, PartialEq, Eq)]
 pub struct Header {
-    count: usize,
-    // The first `count` are meant.
-    items: [Item; 256],
+    items: Few<Item, 256>,
     accounts: usize,
     orders: usize,
     money: u64,
-    ghost few: { count ≤ 256 },
-    ghost room: { length items ≡ 256 },
-    ghost fits: { in_range (numbers_from count items accounts orders money) ≡ true },
+    ghost fits: { in_range (numbers_of (few_items items) accounts orders money) ≡ true },
 }
 
 // Some number is out of range.
-#[derive(Clone, Copy)]
+#[derive(Clone, Copy, Debug, PartialEq, Eq)]
 pub struct OutOfRange;
+
+// By hand, since a derive would write no clause.
+impl fmt::Display for OutOfRange {
+    ghost output = { λ _. Some (codes "a number of the market is out of range") };
+
+    fn fmt<W: fmt::Write>(&self, f: &mut fmt::Formatter<W>) -> fmt::Result {
+        f.write_str("a number of the market is out of range")
+    }
+}
+
+impl Error for OutOfRange {}
+
+// More items than there is room for are out of range.
+impl From<NoRoom> for OutOfRange {
+    ghost from_gives = { λ _ _. ⊤ };
+
+    fn from(_e: NoRoom) -> OutOfRange {
+        OutOfRange
+    }
+}

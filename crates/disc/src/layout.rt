@@ -4,44 +4,57 @@ ghost use Rattle.disc.specs.Layout.{body_blocks, disc_blocks, first_blocks, leas
 
 pub const BLOCK: usize = 512;
 
-// The blocks of the first market.
-pub(crate) fn first_blocks(items: usize) -> usize
-    requires { items ≤ 256 }
-    ensures { (result ≡ first_blocks items) × (result ≤ 5) }
-{
-    (24 + 8 * items + 511) / 512
+// What a disc's length depends on, each within its limit.
+#[derive(Clone, Copy, Debug, PartialEq, Eq)]
+pub(crate) struct Sizes {
+    pub items: usize,
+    pub accounts: usize,
+    pub orders: usize,
+    ghost few_items: { items ≤ 256 },
+    ghost few_accounts: { accounts ≤ 4096 },
+    ghost few_orders: { orders ≤ 65536 },
 }
 
-// The blocks of a checkpoint's body.
-pub(crate) fn body_blocks(items: usize, accounts: usize, orders: usize) -> usize
-    requires { (items ≤ 256) × ((accounts ≤ 4096) × (orders ≤ 65536)) }
-    ensures { (result ≡ body_blocks items accounts orders) × (result ≤ 22601) }
-{
-    let words = 8 + 2 * items + accounts * (1 + items) + 6 * orders;
-    (words + 63) / 64
-}
+impl Sizes {
+    // The blocks of the first market.
+    pub fn first_blocks(self) -> usize
+        ensures value { result ≡ first_blocks self.items }
+        ensures bound { result ≤ 5 }
+    {
+        (24 + 8 * self.items).div_ceil(BLOCK)
+    }
 
-// The blocks that a journal has at least.
-pub(crate) fn least_journal(items: usize) -> usize
-    requires { items ≤ 256 }
-    ensures { (result ≡ least_journal items) × (result ≤ 97) }
-{
-    let content = (2 + 8 * items + 511) / 512;
-    16 * (1 + content) + 1
-}
+    // The blocks of a checkpoint's body.
+    pub fn body_blocks(self) -> usize
+        ensures value { result ≡ body_blocks self.items self.accounts self.orders }
+        ensures bound { result ≤ 22601 }
+    {
+        let words = 8 + 2 * self.items + self.accounts * (1 + self.items) + 6 * self.orders;
+        words.div_ceil(64)
+    }
 
-// All blocks of a disc with journals of so many blocks.
-pub(crate) fn disc_blocks(items: usize, accounts: usize, orders: usize, journal: usize) -> usize
-    requires { (items ≤ 256) × ((accounts ≤ 4096) × ((orders ≤ 65536) × (journal ≤ 1048576))) }
-    ensures { (result ≡ disc_blocks items accounts orders journal) × (result ≤ 2142362) }
-{
-    first_blocks(items) + 1 + 2 * (1 + body_blocks(items, accounts, orders) + journal)
-}
+    // The blocks that a journal has at least.
+    pub fn least_journal(self) -> usize
+        ensures value { result ≡ least_journal self.items }
+        ensures bound { result ≤ 97 }
+    {
+        let content = (2 + 8 * self.items).div_ceil(BLOCK);
+        16 * (1 + content) + 1
+    }
 
-// The least length of a disc, in bytes.
-pub(crate) fn needed_bytes(items: usize, accounts: usize, orders: usize) -> usize
-    requires { (items ≤ 256) × ((accounts ≤ 4096) × (orders ≤ 65536)) }
-    ensures { result ≡ needed_bytes items accounts orders }
-{
-    512 * disc_blocks(items, accounts, orders, least_journal(items))
+    // All blocks of a disc with journals of so many blocks.
+    pub fn disc_blocks(self, journal: usize) -> usize
+        requires { journal ≤ 1048576 }
+        ensures value { result ≡ disc_blocks self.items self.accounts self.orders journal }
+        ensures bound { result ≤ 2142362 }
+    {
+        self.first_blocks() + 1 + 2 * (1 + self.body_blocks() + journal)
+    }
+
+    // The least length of a disc, in bytes.
+    pub fn needed_bytes(self) -> usize
+        ensures { result ≡ needed_bytes self.items self.accounts self.orders }
+    {
+        BLOCK * self.disc_blocks(self.least_journal())
+    }
 }

@@ -1,103 +1,51 @@
 // New discs.
 ghost use Rattle.disc.specs.Block0.{header_refusal, numbers_on};
 ghost use Rattle.disc.specs.Means.{header_of};
-ghost use Rattle.disc.specs.New.{ComesBack, IsNotMade, header_bytes, items_bytes, most_journal, new_disc, padded, start_bytes};
-ghost use Rattle.std.specs.Prelude.{◌≡◌, ◌<◌, ◌≤◌, ◌++◌, map, length, IfOk, None, vec_len, MatchResult, OnOk};
-ghost use Rattle.wire.specs.Means.{item_of};
-ghost use Rattle.wire.specs.Number.{eight_of, four_of, two_of};
+ghost use Rattle.disc.specs.New.{ComesBack, IsNotMade, header_bytes, most_journal, new_disc, padded};
+ghost use Rattle.std.specs.Prelude.{◌≡◌, ◌<◌, ◌≤◌, length, IfOk, None, vec_len, MatchResult, OnOk};
 
 use crate::header::Header;
-use crate::layout::{disc_blocks, first_blocks, least_journal};
+use crate::layout::BLOCK;
 use crate::making::NotMade;
 use std::alloc::{AllocError, Global};
-use wire::Item;
+use wire::{Encode, Row};
 
-fn put_u16(bytes: &mut Vec<u8>, x: u16) -> Result<(), AllocError>
-    ensures { OnOk result (bytes.new.items ≡ bytes.old.items ++ two_of x) }
-{
-    bytes.extend_from_slice(&x.to_le_bytes())?;
-    Ok(())
-}
-
-fn put_u32(bytes: &mut Vec<u8>, x: u32) -> Result<(), AllocError>
-    ensures { OnOk result (bytes.new.items ≡ bytes.old.items ++ four_of x) }
-{
-    put_u16(bytes, (x % 65536) as u16)?;
-    put_u16(bytes, (x / 65536) as u16)?;
-    Ok(())
-}
-
-fn put_u64(bytes: &mut Vec<u8>, x: u64) -> Result<(), AllocError>
-    ensures { OnOk result (bytes.new.items ≡ bytes.old.items ++ eight_of x) }
-{
-    put_u32(bytes, (x % 4294967296) as u32)?;
-    put_u32(bytes, (x / 4294967296) as u32)?;
-    Ok(())
-}
-
-// The mark and the four numbers.
-fn start_bytes(
-    heap: Global,
-    count: u32,
-    accounts: u32,
-    orders: u32,
-    money: u64,
-) -> Result<Vec<u8>, AllocError>
-    ensures { IfOk result (λ v. v.items ≡ start_bytes count accounts orders money) }
-{
-    let mut bytes = Vec::from_slice(heap, b"MRKT")?;
-    put_u32(&mut bytes, count)?;
-    put_u32(&mut bytes, accounts)?;
-    put_u32(&mut bytes, orders)?;
-    put_u64(&mut bytes, money)?;
-    Ok(bytes)
-}
-
-// Each item's price and band.
-fn put_items(bytes: &mut Vec<u8>, items: &[Item]) -> Result<(), AllocError>
-    ensures { OnOk result (bytes.new.items ≡ bytes.old.items ++ items_bytes (map item_of items.now)) }
-{
-    for item in items {
-        put_u32(bytes, item.price)?;
-        put_u32(bytes, item.band)?;
-    }
-    Ok(())
-}
-
+// The mark and the four numbers, and each item's price and band.
+#[tactic(auto, using(crate::proofs::Puts::row_bytes), unfolding(crate::specs::New::header_bytes, crate::specs::New::start_bytes))]
 fn header_bytes(heap: Global, header: &Header) -> Result<Vec<u8>, AllocError>
     ensures { IfOk result (λ v. v.items ≡ header_bytes (header_of header.now)) }
 {
-    let mut bytes = start_bytes(
-        heap,
-        header.count() as u32,
-        header.accounts() as u32,
-        header.orders() as u32,
-        header.money(),
-    )?;
-    put_items(&mut bytes, header.items())?;
+    // By `as`, which is proved to lose nothing here; `try_from` would have an error that cannot come.
+    let count = header.count() as u32;
+    let accounts = header.accounts() as u32;
+    let orders = header.orders() as u32;
+    let mut bytes = Vec::from_slice(heap, b"MRKT")?;
+    (count, (accounts, (orders, header.money()))).write(&mut bytes)?;
+    Row(header.items()).write(&mut bytes)?;
     Ok(bytes)
 }
 
 // Zeros behind the bytes, up to `length` in all.
+#[tactic(auto, unfolding(crate::specs::New::padded))]
 fn pad(bytes: &mut Vec<u8>, length: usize) -> Result<(), AllocError>
     requires { vec_len bytes.old ≤ length }
-    ensures { OnOk result ((bytes.new.items ≡ padded length bytes.old.items) × (vec_len bytes.new ≡ length)) }
+    ensures items { OnOk result (bytes.new.items ≡ padded length bytes.old.items) }
+    ensures len { OnOk result (vec_len bytes.new ≡ length) }
 {
     bytes.resize(length, 0)?;
     Ok(())
 }
 
+#[tactic(auto, unfolding(crate::specs::New::new_disc))]
 fn disc_bytes(heap: Global, header: &Header, journal: usize) -> Result<Vec<u8>, AllocError>
     requires { journal ≤ most_journal }
     ensures { IfOk result (λ v. v.items ≡ new_disc (header_of header.now) journal) }
 {
-    let count = header.count();
-    let first = 512 * first_blocks(count);
-    let all = 512 * disc_blocks(count, header.accounts(), header.orders(), journal);
+    let sizes = header.sizes();
     let mut bytes = header_bytes(heap, header)?;
-    pad(&mut bytes, first)?;
+    pad(&mut bytes, BLOCK * sizes.first_blocks())?;
     bytes.push(1)?;
-    pad(&mut bytes, all)?;
+    pad(&mut bytes, BLOCK * sizes.disc_blocks(journal))?;
     Ok(bytes)
 }
 
@@ -109,21 +57,46 @@ pub fn make(heap: Global, header: &Header, journal: usize) -> Result<Vec<u8>, No
         × (numbers_on v.items ≡ header_of header.now))
         (λ e. IsNotMade (length (header_of header.now).items) journal e) }
 {
-    if journal < least_journal(header.count()) {
+    if journal < header.least_journal() {
         return Err(NotMade::ShortJournal);
     }
     if journal > 1_048_576 {
         return Err(NotMade::LongJournal);
     }
-    match disc_bytes(heap, header, journal) {
-        Ok(bytes) => Ok(bytes),
-        Err(_) => Err(NotMade::Memory),
-    }
+    Ok(disc_bytes(heap, header, journal)?)
 }
 
 // Every new disc is taken, and holds the numbers that it was made from.
-pub fn new_discs_come_back() -> u8
+pub fn new_discs_come_back()
     ensures { ComesBack }
-{
-    0
+{}
+
+#[cfg(test)]
+mod tests {
+    use super::*;
+    use crate::header::reading::read;
+    use std::test::Fail;
+    use wire::Item;
+
+    // Two items, 3 accounts, 5 orders and journals of 33 blocks: 1 block for the first market and 1 for the layout,
+    // and two areas of 1 block, 1 for a checkpoint's body and 33; that is 72 blocks of 512 bytes.
+    #[test]
+    fn a_new_disc_is_read(rt: HostRuntime) -> Result<(), Fail> {
+        let items = [
+            Item {
+                price: 258,
+                band: 10,
+            },
+            Item { price: 7, band: 7 },
+        ];
+        let header = Header::new(3, 5, 1000, &items)?;
+        let disc = make(rt.alloc(), &header, 33)?;
+        assert_eq!(rt; disc.len(), 36864);
+        assert!(rt; disc.starts_with(b"MRKT\x02\0\0\0"));
+        assert_eq!(rt; (disc[24], disc[25], disc[28]), (2, 1, 10));
+        assert_eq!(rt; disc[512], 1);
+        assert_eq!(rt; read(&disc), Ok(header));
+        assert!(rt; matches!(make(rt.alloc(), &header, 32), Err(NotMade::ShortJournal)));
+        Ok(())
+    }
 }

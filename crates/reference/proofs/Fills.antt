@@ -1,5 +1,5 @@
 -- An order is filled turn by turn.
-use Rattle.std.proofs.Common.{◌≡◌, ℕ, zero, suc, ◌-◌, ◌<◌, ◌≤◌, Bool, true, false, leb, List, [], ◌∷◌, ◌++◌, length, get_or, sym, refl, ap, ◌∙◌, ⊎_elim, append_assoc, append-nil, le_of_suc-le-suc, arith}
+use Rattle.std.proofs.Common.{◌≡◌, ℕ, zero, suc, ◌-◌, ◌<◌, ◌≤◌, Bool, true, false, leb, min, List, [], ◌∷◌, ◌++◌, length, get_or, sym, refl, ap, ◌∙◌, ⊎_elim, append_assoc, append-nil, le_of_suc-le-suc, arith}
 use Rattle.std.proofs.ByRecursion.{All-get_or}
 use Rattle.std.proofs.lemmas.Bool.{cases_Bool, cases_lt, eq-eqb, ne_eqb, le-leb, lt-leb}
 use Rattle.std.proofs.lemmas.Bool.Decides.{nat_tests}
@@ -7,10 +7,13 @@ use Rattle.venue.specs.World.{World, Order, Report, pick, is_buy, gets, traded, 
 use Rattle.venue.specs.World.{trade, no_order}
 use Rattle.venue.specs.Invariant.{Left}
 use Rattle.venue.specs.Ranges.{OrderRange}
+use Rattle.venue.specs.Sizes.{Small}
 use Rattle.venue.proofs.Matching.{turn_goes}
 use Rattle.venue.proofs.RangesMarket.{turn_range}
 use Rattle.reference.specs.Conditions.{Filling, Roomy}
+use Rattle.reference.specs.Means.{limits_of}
 use Rattle.reference.specs.Parts.{after, filled}
+use Rattle.reference.specs.declared.limits.Limits.{Limits}
 use Rattle.reference.proofs.Ranges.{turn_roomy}
 
 orders_either : (b : Bool) (u v : World) (os : List Order) → u.orders ≡ os → v.orders ≡ os → (pick b u v).orders ≡ os
@@ -102,10 +105,15 @@ pub record Ready (w : World) (o r : Order) : Type 0 where
   pub some : 1 ≤ r.left
   pub roomy : Roomy 1125899906842624 2147483648 w
 
-pub ready : (w : World) (o r : Order) (j most : ℕ) → Filling w o most → j < length w.orders → r ≡ get_or w.orders j no_order → Ready w o r
-ready w o r j most f h e =
-    let z = f.limits in
-    let g = turn_range z w o f.small f.turn in
+-- the program's limits are ones that its numbers can hold
+small : (l : Limits) (k : ℕ → Bool) → Small (limits_of l k)
+small l k = record { orders = l.few; money = l.small; holding = refl }
+
+pub ready : (l : Limits) (w : World) (o r : Order) (j : ℕ) → Filling l w o → j < length w.orders → r ≡ get_or w.orders j no_order → Ready w o r
+ready l w o r j f h e =
+    let z = limits_of l f.kinds in
+    let s = small l f.kinds in
+    let g = turn_range z w o s f.turn in
     let p = All-get_or (OrderRange (length w.accounts) (length w.items)) w.orders j no_order h g.0.orders in
     let l = All-get_or Left w.orders j no_order h f.turn.left in
     rw e (record {
@@ -115,22 +123,18 @@ ready w o r j most f h e =
       other = p.account;
       price = p.price;
       some = l.0;
-      roomy = turn_roomy z w o f.small f.turn;
+      roomy = turn_roomy z w o s f.turn;
     })
 
 -- one turn leaves an order that is being filled
-pub fills_on : (w v : World) (o r : Order) (j x most : ℕ) → Filling w o most → j ≡ best o w.orders → j < length w.orders →
-    r ≡ get_or w.orders j no_order → x ≡ lesser o.left r.left → v ≡ traded w o r j x → Filling v (less_left o x) most
-fills_on w v o r j x most f ej lt er ex ev =
-    let t = turn_goes f.limits w o f.turn (rw ej at lt) in
-    record { limits = f.limits; small = f.small; room = f.room; turn = rw (ev, ex, er, ej) t }
+pub fills_on : (l : Limits) (w v : World) (o r : Order) (j x : ℕ) → Filling l w o → j ≡ best o w.orders → j < length w.orders →
+    r ≡ get_or w.orders j no_order → x ≡ lesser o.left r.left → v ≡ traded w o r j x → Filling l v (less_left o x)
+fills_on l w v o r j x f ej lt er ex ev =
+    let t = turn_goes (limits_of l f.kinds) w o f.turn (rw ej at lt) in
+    record { kinds = f.kinds; turn = rw (ev, ex, er, ej) t }
 
--- the smaller of two
-pub lesser_low : {a b : ℕ} → a < b → lesser a b ≡ a
-lesser_low {a} {b} h = grind (arith, nat_tests)
-
-pub lesser_high : {a b : ℕ} → b ≤ a → lesser a b ≡ b
-lesser_high {a} {b} h = grind (arith, nat_tests)
+pub lesser_min : (a b : ℕ) → min a b ≡ lesser a b
+lesser_min a b = grind (arith, nat_tests)
 
 pub after_one : (r : Report) (p : World × List Report) → length (after (r ∷ []) p).1 ≡ suc (length p.1)
 unfolding after

@@ -1,17 +1,10 @@
 -- The first market, as it is made.
-use Rattle.std.proofs.Common.{◌≡◌, ℕ, zero, suc, ◌+◌, true, List, [], ◌∷◌, ◌++◌, length, replicate, sym, refl, ap, ◌∙◌, le_of_suc-le-suc, add-one, arith}
+use Rattle.std.proofs.Common.{◌≡◌, ℕ, zero, suc, true, List, [], ◌∷◌, length, refl, le_of_suc-le-suc, arith}
 use lib.ListN.{length-replicate}
 use Rattle.disc.specs.Numbers.{items_fit}
 use Rattle.std.proofs.lemmas.Bool.Decides.{nat_tests}
 use Rattle.venue.specs.Promise.{SoundItems}
 use Rattle.venue.specs.World.{Item, first}
-
-pub replicate_more : {A : Type 0} (n : ℕ) (x : A) → replicate n x ++ x ∷ [] ≡ replicate (n + 1) x
-replicate_more n x = go n x ∙ ap (λ k. replicate k x) (sym (add-one n))
-  where
-    go : {A : Type 0} (n : ℕ) (x : A) → replicate n x ++ x ∷ [] ≡ replicate (suc n) x
-    go zero x = refl
-    go (suc n) x = ap (λ xs. x ∷ xs) (go n x)
 
 -- items in range, one by one
 pub items_sound : (is : List Item) → items_fit is ≡ true → SoundItems is

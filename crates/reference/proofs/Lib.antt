@@ -1,13 +1,14 @@
 pub mod Cancels
-pub mod Empty
 pub mod Evenings
 pub mod Fills
 pub mod Firsts
 pub mod Mornings
 pub mod Orders
+pub mod Pairs
 pub mod Payments
 pub mod Places
 pub mod Ranges
+pub mod Reported
 pub mod Refill
 pub mod Room
 pub mod Placings

@@ -1,6 +1,6 @@
 -- What a read of a Vec says of the list that it stands for.
-use Rattle.std.proofs.Common.{◌≡◌, ℕ, ◌<◌, List, map, length, get_or, set, ℤ, pos, ◌+ℤ◌, ◌-ℤ◌, ◌*ℤ◌, vec_items, vec_len, sym, ap, ◌∙◌, rules}
-use Rattle.std.proofs.lemmas.List.{get_or-map, map-set}
+use Rattle.std.proofs.Common.{◌≡◌, ℕ, ◌<◌, List, map, length, get_or, set, ℤ, pos, ◌+ℤ◌, ◌-ℤ◌, ◌*ℤ◌, vec_items, sym, ap, ◌∙◌}
+use Rattle.std.proofs.lemmas.List.{get_or-map, length-map, map-set}
 use Rattle.std.specs.Vec.{with_item}
 use Rattle.venue.specs.World as world
 use Rattle.venue.specs.World.{World, account, item, held, gets, with_account, with_money, nobody, no_item}
@@ -22,14 +22,16 @@ blank_item = record { price = 0; band = 0 }
 pub read_map : {X Y : Type 0} (f : X → Y) (xs : List X) (i : ℕ) (x : X) (e : Y) → i < length xs → x ≡ get_or xs i x → get_or (map f xs) i e ≡ f x
 read_map f xs i x e h r = get_or-map f xs i x e h ∙ ap f (sym r)
 
-pub account_read : (m : Market) (a : ℕ) (x : Account) → a < vec_len m.accounts → x ≡ get_or (vec_items m.accounts) a x →
+-- what stands in place i of the row, where i is the number a or k
+pub account_read : (m : Market) (a i : ℕ) (x : Account) → a < length (world_of m).accounts → i ≡ a → x ≡ get_or (vec_items m.accounts) i x →
     account (world_of m) a ≡ account_of x
 unfolding account
-account_read m a x h r = read_map account_of (vec_items m.accounts) a x nobody (search rules) r
+account_read m a i x h e r = read_map account_of (vec_items m.accounts) a x nobody (simp length-map at h) (rw e at r)
 
-pub item_read : (m : Market) (k : ℕ) (x : Item) → k < vec_len m.items → x ≡ get_or (vec_items m.items) k x → item (world_of m) k ≡ item_of x
+pub item_read : (m : Market) (k i : ℕ) (x : Item) → k < length (world_of m).items → i ≡ k → x ≡ get_or (vec_items m.items) i x →
+    item (world_of m) k ≡ item_of x
 unfolding item
-item_read m k x h r = read_map item_of (vec_items m.items) k x no_item (search rules) r
+item_read m k i x h e r = read_map item_of (vec_items m.items) k x no_item (simp length-map at h) (rw e at r)
 
 -- what an account comes to, by what was read of it and of the item
 pub gets_from : (w : World) (a k : ℕ) (x : ℤ) (p : ℕ) (y : world.Account) (i : world.Item) → account w a ≡ y → item w k ≡ i →
@@ -44,13 +46,13 @@ gets_from w a k x p y i e f = rw (e, f)
 -- an account's money and all money are written
 pub paid_world : (m : Market) (a b : ℕ) (x : Account) (cash new : ℤ) (n p : ℕ) → account (world_of m) a ≡ account_of x → b ≡ a → cash ≡ new → n ≡ p →
     with_money (with_account (world_of m) a (record { cash = cash; holds = (account (world_of m) a).holds })) n ≡
-    world_of (record {
-      items = m.items;
-      accounts = with_item m.accounts b (record { cash = new; positions = x.positions });
-      orders = m.orders;
+    record {
+      items = (world_of m).items;
+      accounts = map account_of (vec_items (with_item m.accounts b (record { cash = new; positions = x.positions })));
+      orders = (world_of m).orders;
       next = m.next;
       money = p;
       trading = m.trading;
-    })
+    }
 unfolding with_money with_account
 paid_world m a b x cash new n p e f g h = rw (e, f, g, h) (simp map-set)

@@ -49,7 +49,13 @@ module _ (z : Limits) (w : World) (a k p q : ℕ) where
 
 -- a market whose next number is counted up
 pub counted_is : (m : Market) (w : World) → world_of m ≡ w →
-    world_of (record { items = m.items; accounts = m.accounts; orders = m.orders; next = m.next + 1; money = m.money; trading = m.trading }) ≡
-    counted w
+    record {
+      items = (world_of m).items;
+      accounts = (world_of m).accounts;
+      orders = (world_of m).orders;
+      next = m.next + 1;
+      money = m.money;
+      trading = m.trading;
+    } ≡ counted w
 unfolding counted
 counted_is m w e = rw add-one (ap counted e)

@@ -1,8 +1,10 @@
 -- Products and sums of signed money.
-use Rattle.std.proofs.Common.{◌≡◌, ℕ, suc, ◌*◌, ◌≤◌, List, ℤ, pos, negsuc, ◌+ℤ◌, ◌*ℤ◌, neg_ℤ, nat_abs, refl, mul-le-mul, arith}
+use Rattle.std.proofs.Common.{◌≡◌, ℕ, suc, true, false, ◌*◌, ◌≤◌, List, ℤ, pos, negsuc, ◌+ℤ◌, ◌*ℤ◌, neg_ℤ, nat_abs, refl, ⊎_elim, mul-le-mul, arith}
 use lib.IntN.{*ℤ-negsuc}
 use Rattle.std.proofs.lemmas.Int.{ints}
-use Rattle.std.proofs.lemmas.Bool.{le-ltb}
+use lib.Signed.{lt_z}
+use Rattle.std.specs.Int.{int_max}
+use Rattle.std.proofs.lemmas.Bool.{cases_Bool, le-ltb}
 use Rattle.venue.specs.World.{Account, Item, Order, buys, sells, need_in, larger, abs}
 use Rattle.reference.specs.Conditions.{Within}
 
@@ -40,3 +42,12 @@ pub abs_is : (h : ℤ) → abs h ≡ nat_abs h
 unfolding abs
 abs_is (pos n) = rw (le-ltb n 0 (omega arith))
 abs_is (negsuc n) = refl
+
+-- the larger of two
+pub max_is : (a b : ℤ) → int_max a b ≡ larger a b
+unfolding larger
+max_is a b = grind (arith, ints)
+
+pub larger_within : (n : ℕ) (a b : ℤ) → Within n a → Within n b → Within n (larger a b)
+unfolding larger
+larger_within n a b p q = ⊎_elim (λ (e : lt_z a b ≡ true). rw e q) (λ (e : lt_z a b ≡ false). rw e p) (cases_Bool (lt_z a b))

@@ -11,7 +11,7 @@ use Rattle.venue.specs.Turn.{Turn}
 use Rattle.venue.specs.World.{World, Order, Limits, abs, account, end_day, item, no_item, nobody, paid, prices_fit, says, says_it}
 use Rattle.venue.proofs.RangesMarket.{cash_range, sized_says, sized_small, sound_range, turn_range, tearing_range}
 use Rattle.venue.proofs.Sounds.{inv_sound, sound_inv, sound_says, tearing_begins}
-use Rattle.reference.specs.Conditions.{Fit, Morning, Roomy, Settles, SmallSizes, Standing, Within}
+use Rattle.reference.specs.Conditions.{Fit, Morning, Roomy, Settles, Standing, Within}
 use Rattle.reference.proofs.Products.{abs_is}
 use Rattle.reference.proofs.Settled.{length_paid, paid_at}
 
@@ -36,21 +36,15 @@ pub tearing_roomy : (z : Limits) (w : World) → Small z → Tearing z w → Roo
 tearing_roomy z w s t = ranged_roomy w t.inv.wide (tearing_range z w s t)
 
 -- what a market that can hear a message offers to each
-module _ (z : Limits) (w : World) (most : ℕ) (s : Standing z w most) where
+module _ (z : Limits) (w : World) (s : Standing z w) where
   pub standing_fit : Fit w
   standing_fit =
       let i = sound_inv z w s.sound in
       let r = ranged_roomy w i.wide (sound_range z w s.sound s.sized) in
       record {
         roomy = r;
-        some = s.sized.some_items;
-        items = s.sized.few_items;
-        accounts = s.sized.few_accounts;
         orders = omega (arith, i.few, s.sized.few_orders);
       }
-
-  pub standing_sizes : SmallSizes w
-  standing_sizes = record { some = s.sized.some_items; items = s.sized.few_items; accounts = s.sized.few_accounts }
 
   pub standing_morning : w.trading ≡ false → Morning w
   standing_morning e =
@@ -89,10 +83,10 @@ module _ (o m : ℕ) (w : World) (ps bs : List ℕ) where
   unfolding says says_it every
   ended t f = rw (t, f)
 
-pub standing_settles : (o m : ℕ) (k : ℕ → Bool) (w : World) (most : ℕ) →
-    Standing (record { orders = o; money = m; holding = 2147483648; built = k }) w most → Settles w
+pub standing_settles : (o m : ℕ) (k : ℕ → Bool) (w : World) →
+    Standing (record { orders = o; money = m; holding = 2147483648; built = k }) w → Settles w
 unfolding account
-standing_settles o m k w most s =
+standing_settles o m k w s =
     record {
       cash = λ t ps bs f a h.
           let y = all_built o m w ps bs in

@@ -1,6 +1,6 @@
 -- A row that is written over from its front: the first k elements are new, the others old.
-use Rattle.std.proofs.Common.{◌≡◌, ℕ, zero, suc, ◌+◌, ◌<◌, List, [], ◌∷◌, ◌++◌, map, length, get_or, take, drop, set, refl, ap, le_of_suc-le-suc, add-one, arith}
-use Rattle.std.proofs.lemmas.List.{map-set}
+use Rattle.std.proofs.Common.{◌≡◌, ℕ, zero, suc, ◌+◌, ◌<◌, List, [], ◌∷◌, ◌++◌, map, length, get_or, take, drop, set, refl, ap, ◌∙◌, le_of_suc-le-suc, add-one, arith}
+use Rattle.std.proofs.lemmas.List.{map-set, take-append-le, take_all}
 
 abbrev pub refilled : {A : Type 0} → List A → List A → ℕ → List A
 refilled new old k = take k new ++ drop k old
@@ -34,6 +34,10 @@ module _ {A : Type 0} where
   refill_all (x ∷ xs) [] k e h = absurd (omega arith)
   refill_all (x ∷ xs) (y ∷ ys) zero e h = absurd (omega arith)
   refill_all (x ∷ xs) (y ∷ ys) (suc k) e h = ap (λ zs. x ∷ zs) (refill_all xs ys k (omega arith) (omega arith))
+
+-- a whole row that was written
+pub written : {A : Type 0} (n : ℕ) (xs zs : List A) → length xs ≡ n → take n (xs ++ zs) ≡ xs
+written n xs zs e = take-append-le n xs zs (omega arith) ∙ take_all n xs (omega arith)
 
 -- one turn of a loop that writes over a row: xs stands for the row by f
 pub refill_step : {X Y : Type 0} (f : X → Y) (xs : List X) (new old : List Y) (k : ℕ) (x : X) (d : Y) → map f xs ≡ refilled new old k →

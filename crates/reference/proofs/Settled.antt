@@ -48,12 +48,12 @@ module _ (bs : List ℕ) (i j n : ℕ) (is : List Item) (k : ℕ) where
   unfolding prices_fit
   fit_none h l = rw (rest_none bs i n k l, rest_none bs j n k l, drop_all)
 
-  pub gain_more : (x : world.Account) → k < length is → k < n →
+  pub gain_more : (x : world.Account) (d : Item) → k < length is → k < n →
       gain k (map item_of (drop k is)) (rest bs i n k) x ≡
-      (held x k *ℤ (pos (four bs (i + 8 * k)) -ℤ pos (get_or is k blank_item).price)) +ℤ gain (k + 1) (map item_of (drop (k + 1) is))
+      (held x k *ℤ (pos (four bs (i + 8 * k)) -ℤ pos (get_or is k d).price)) +ℤ gain (k + 1) (map item_of (drop (k + 1) is))
       (rest bs i n (k + 1)) x
   unfolding gain
-  gain_more x h l = rw (rest_more bs i n k l, add-one k, drop-cons is k blank_item)
+  gain_more x d h l = rw (rest_more bs i n k l, add-one k, drop-cons is k d)
 
   pub gain_none : (x : world.Account) → length is ≤ k → gain k (map item_of (drop k is)) (rest bs i n k) x ≡ pos 0
   unfolding gain

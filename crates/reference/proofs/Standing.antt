@@ -1,5 +1,5 @@
 -- A plain market can hear a message, and still can after it.
-use Rattle.std.proofs.Common.{◌≡◌, ℕ, ◌≤◌, Bool, true, false, [], ◌∷◌, length, refl, arith}
+use Rattle.std.proofs.Common.{◌≡◌, ℕ, Bool, true, false, [], ◌∷◌, length, refl, arith}
 use Rattle.disc.specs.Numbers.{counts_fit}
 use Rattle.std.proofs.lemmas.Bool.{le-leb}
 use Rattle.std.proofs.lemmas.Bool.Decides.{nat_tests}
@@ -37,10 +37,8 @@ module _ (l : code.Limits) (k : ℕ → Bool) (w : World) where
         le-leb l.money 1125899906842624 s.money,
       )
 
-  pub stands : (most : ℕ) → Sound (limits_of l k) w → counts_fit (length w.items) (length w.accounts) l.orders l.money ≡ true → l.orders
-      ≤ most →
-      Standing (limits_of l k) w most
-  stands most s e r = record { sound = s; sized = sizes_tell e; room = r }
+  pub stands : Sound (limits_of l k) w → counts_fit (length w.items) (length w.accounts) l.orders l.money ≡ true → Standing (limits_of l k) w
+  stands s e = record { sound = s; sized = sizes_tell e }
 
 -- limits differ only in what is built, and what a message does there does not ask that
 pub says_any : (l : code.Limits) (k j : ℕ → Bool) (w : World) (m : Message) → says_it (limits_of l k) w m ≡ says_it (limits_of l j) w m

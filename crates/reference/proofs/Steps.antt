@@ -8,7 +8,7 @@ use Rattle.wire.specs.declared.item.Item.{Item}
 use Rattle.reference.specs.Means.{order_of}
 use Rattle.reference.specs.Parts.{buy_loss, sell_loss}
 use Rattle.reference.specs.declared.market.Order.{Order}
-use Rattle.reference.proofs.Places.{blank_order, blank_item}
+use Rattle.reference.proofs.Places.{blank_order}
 
 module _ (a k : ℕ) (os : List Order) (i : ℕ) (h : i < length os) where
   pub standing_more : standing a k (map order_of (drop i os)) ≡
@@ -27,11 +27,11 @@ module _ (a k : ℕ) (os : List Order) (i : ℕ) (h : i < length os) where
   unfolding sells sell_loss
   sells_more it = rw (add-one, drop-cons os i blank_order)
 
-pub need_more : (a : ℕ) (is : List Item) (k : ℕ) (x : world.Account) (os : List world.Order) → k < length is →
+pub need_more : (a : ℕ) (is : List Item) (k : ℕ) (x : world.Account) (os : List world.Order) (d : Item) → k < length is →
     need_from a k (map item_of (drop k is)) x os ≡
-    need_in a k (item_of (get_or is k blank_item)) (held x k) os +ℤ need_from a (k + 1) (map item_of (drop (k + 1) is)) x os
+    need_in a k (item_of (get_or is k d)) (held x k) os +ℤ need_from a (k + 1) (map item_of (drop (k + 1) is)) x os
 unfolding need_from
-need_more a is k x os h = rw (add-one, drop-cons is k blank_item)
+need_more a is k x os d h = rw (add-one, drop-cons is k d)
 
 pub need_none : (a : ℕ) (is : List Item) (k : ℕ) (x : world.Account) (os : List world.Order) → length is ≤ k →
     need_from a k (map item_of (drop k is)) x os ≡ pos 0

@@ -12,9 +12,6 @@ module _ (w v : World) (o : Order) (e : v ≡ with_orders w (w.orders ++ o ∷ [
       subst Fit (sym e)
       (record {
         roomy = roomy_orders 1125899906842624 2147483648 w (w.orders ++ o ∷ []) f.roomy;
-        some = f.some;
-        items = f.items;
-        accounts = f.accounts;
         orders = simp length-append (omega arith);
       })
 

@@ -1,17 +1,16 @@
 -- A morning that is under way: what was reported and what is to come is the whole.
-use Rattle.std.proofs.Common.{◌≡◌, ℕ, suc, ◌+◌, ◌-◌, ◌<◌, ◌≤◌, true, false, List, [], ◌++◌, map, length, vec_items, vec_len, vec_capacity, Vec, sym, refl, ap, ◌∙◌, subst, ⊎_elim, add-one, arith, length-append}
+use Rattle.std.proofs.Common.{◌≡◌, ℕ, suc, ◌+◌, ◌-◌, ◌<◌, ◌≤◌, true, false, List, [], ◌++◌, map, length, vec_items, vec_len, vec_capacity, sym, refl, ap, ◌∙◌, subst, ⊎_elim, add-one, arith, length-append}
 use Rattle.std.proofs.lemmas.List.{length-map}
 use Rattle.std.proofs.lemmas.Bool.{cases_Bool}
-use Rattle.std.specs.declared.alloc.Global.{Global}
 use Rattle.venue.specs.World.{World, Report, account, covered, held, opposite, tear, tear_items, tear_all}
 use Rattle.venue.proofs.TearAll.{tears_items}
 use Rattle.venue.proofs.TearUp.{Tears, tearing_goes, tears_tear}
 use Rattle.wire.specs.Means.{report_of}
-use Rattle.wire.specs.declared.report.Report as code
 use Rattle.reference.specs.Means.{world_of}
-use Rattle.reference.specs.Conditions.{Fit, Morning, SmallSizes}
+use Rattle.reference.specs.Conditions.{Fit, Morning}
+use Rattle.reference.specs.Does.{HasRoom, Tells}
 use Rattle.reference.specs.Parts.{after, torn_account, torn_one}
-use Rattle.reference.specs.declared.market.Market.{Market}
+use Rattle.reference.specs.declared.market.Told.{Told}
 use Rattle.reference.proofs.Fills.{after_none}
 use Rattle.reference.proofs.Mornings.{after_join, tear_turn}
 use Rattle.reference.proofs.Ranges.{tearing_roomy}
@@ -69,94 +68,118 @@ all_turn n a w =
     (λ (e : covered w a w.orders ≡ false). rw e)
     (cases_Bool (covered w a w.orders))
 
-pub morning_fit : (w : World) → Morning w → SmallSizes w → Fit w
-morning_fit w m s =
+-- nothing is to come any more
+pub tear_none : (b a k : ℕ) (w : World) → tear 0 b a k w ≡ (w, [])
+unfolding tear
+tear_none b a k w = refl
+
+pub items_none : (k a : ℕ) (w : World) → tear_items 0 k a w ≡ (w, [])
+unfolding tear_items
+items_none k a w = refl
+
+pub all_none : (a : ℕ) (w : World) → tear_all 0 a w ≡ (w, [])
+unfolding tear_all
+all_none a w = refl
+
+pub morning_fit : (w : World) → Morning w → Fit w
+morning_fit w m =
+    let e = ap length (m.tearing.inv.empty m.tearing.still) in
+    record { roomy = tearing_roomy m.limits w m.small m.tearing; orders = omega arith }
+
+-- a walk over places from 0 on: `all n i` is what is done at the n places from i on, `one i` what is done at place i
+pub record Walk : Type 0 where
+  pub all : ℕ → ℕ → World → World × List Report
+  pub one : ℕ → World → World × List Report
+  pub turn : (n i : ℕ) (w : World) → all (suc n) i w ≡ after (one i w).1 (all n (suc i) (one i w).0)
+  pub none : (i : ℕ) (w : World) → all 0 i w ≡ (w, [])
+
+abbrev pub item_walk : ℕ → ℕ → Walk
+item_walk a k =
     record {
-      roomy = tearing_roomy m.limits w m.small m.tearing;
-      some = s.some;
-      items = s.items;
-      accounts = s.accounts;
-      orders = let e = ap length (m.tearing.inv.empty m.tearing.still) in omega arith;
+      all = λ n b w. tear n b a k w;
+      one = λ b w. torn_one w a b k;
+      turn = λ n b w. tear_turn n b a k w;
+      none = λ b w. tear_none b a k w;
     }
 
--- `rest` is what is to come of the market m, and `whole` what it was at the start, where the market was n and the reports ps
-pub record UnderWay (whole rest : World × List Report) (m n : Market) (rs ps : Vec code.Report Global) : Type 0 where
-  pub is : after (map report_of (vec_items rs)) rest ≡ after (map report_of (vec_items ps)) whole
-  pub onward : Onward (world_of n) (world_of m)
-  pub room : vec_len rs + length rest.1 ≤ vec_capacity rs
-  pub orders : vec_capacity m.orders ≡ vec_capacity n.orders
-  pub reports : vec_capacity rs ≡ vec_capacity ps
+abbrev pub items_walk : ℕ → Walk
+items_walk a =
+    record {
+      all = λ n k w. tear_items n k a w;
+      one = λ k w. tear (length w.accounts) 0 a k w;
+      turn = λ n k w. items_turn n k a w;
+      none = λ k w. items_none k a w;
+    }
 
-pub begins : (whole : World × List Report) (n : Market) (ps : Vec code.Report Global) → Morning (world_of n) →
-    vec_len ps + length whole.1 ≤ vec_capacity ps → UnderWay whole whole n n ps ps
-begins whole n ps m r = record { is = refl; onward = stays (world_of n) m; room = r; orders = refl; reports = refl }
+abbrev pub all_walk : Walk
+all_walk = record { all = tear_all; one = λ a w. torn_account w a; turn = all_turn; none = all_none }
 
-module _ (whole rest step : World × List Report) (next : World → World × List Report) (m n u : Market) (rs ps qs : Vec code.Report Global)
-    (i : UnderWay whole rest m n rs ps) (t : rest ≡ after step.1 (next step.0)) where
-  lengths : length rest.1 ≡ length step.1 + length (next step.0).1
-  unfolding after
-  lengths = ap (λ p. length p.1) t ∙ length-append step.1 (next step.0).1
+-- of n places those below i are done: s was the market at the start, t is it now
+pub record UnderWay (v : Walk) (n i : ℕ) (s t : Told) : Type 0 where
+  pub is : after (map report_of (vec_items t.reports)) (v.all (n - i) i (world_of t.market)) ≡
+      after (map report_of (vec_items s.reports)) (v.all n 0 (world_of s.market))
+  pub onward : Onward (world_of s.market) (world_of t.market)
+  pub room : HasRoom t (v.all (n - i) i)
+  pub limits : t.market.limits ≡ s.market.limits
+  pub reports : vec_capacity t.reports ≡ vec_capacity s.reports
 
-  -- there is room for the step
-  pub step_room : vec_len rs + length step.1 ≤ vec_capacity rs
-  step_room = omega (arith, lengths, i.room)
+module _ (v : Walk) (n : ℕ) where
+  pub begins : (s : Told) → Morning (world_of s.market) → HasRoom s (v.all n 0) → UnderWay v n 0 s s
+  begins s m r =
+      let e : n - 0 ≡ n = omega arith in
+      record { is = rw e; onward = stays (world_of s.market) m; room = rw e r; limits = refl; reports = refl }
 
-  joined : map report_of (vec_items qs) ≡ map report_of (vec_items rs) ++ step.1 →
-      after (map report_of (vec_items qs)) (next step.0) ≡ after (map report_of (vec_items ps)) whole
-  joined r =
-      ap (λ xs. after xs (next step.0)) r ∙ sym (after_join (map report_of (vec_items rs)) step.1 (next step.0)) ∙
-      ap (after (map report_of (vec_items rs))) (sym t) ∙ i.is
+  module _ (i : ℕ) (s t : Told) (h : UnderWay v n i s t) where
+    -- the turn at place i, and those after it
+    turn_at : i < n → v.all (n - i) i (world_of t.market) ≡
+        after (v.one i (world_of t.market)).1 (v.all (n - (i + 1)) (i + 1) (v.one i (world_of t.market)).0)
+    turn_at l = let e : n - i ≡ suc (n - (i + 1)) = omega arith in rw (e, add-one i) (v.turn (n - suc i) i (world_of t.market))
 
-  -- and after it the rest is still to come
-  pub goes_on : (world_of u, map report_of (vec_items qs)) ≡ after (map report_of (vec_items rs)) step → Onward (world_of m) step.0 →
-      vec_capacity u.orders ≡ vec_capacity m.orders → vec_capacity qs ≡ vec_capacity rs → UnderWay whole (next (world_of u)) u n qs ps
-  unfolding after
-  goes_on d o a b =
-      let w : world_of u ≡ step.0 = ap (λ p. p.0) d in
-      let r : map report_of (vec_items qs) ≡ map report_of (vec_items rs) ++ step.1 = ap (λ p. p.1) d in
-      let k = ap length r ∙ length-append (map report_of (vec_items rs)) step.1 in
-      let x : length (map report_of (vec_items qs)) ≡ vec_len qs = simp length-map (sym qs.ok.0) in
-      let y : length (map report_of (vec_items rs)) ≡ vec_len rs = simp length-map (sym rs.ok.0) in
-      let f : length (next (world_of u)).1 ≡ length (next step.0).1 = ap (λ v. length (next v).1) w in
-      record {
-        is = ap (λ v. after (map report_of (vec_items qs)) (next v)) w ∙ joined r;
-        onward = record {
-          morning = subst Morning (sym w) o.morning;
-          accounts = ap (λ v. length v.accounts) w ∙ o.accounts ∙ i.onward.accounts;
-          items = ap (λ v. length v.items) w ∙ o.items ∙ i.onward.items;
-        };
-        room = omega (arith, lengths, i.room);
-        orders = a ∙ i.orders;
-        reports = b ∙ i.reports;
-      }
+    lengths : i < n → length (v.all (n - i) i (world_of t.market)).1 ≡
+        length (v.one i (world_of t.market)).1 + length (v.all (n - (i + 1)) (i + 1) (v.one i (world_of t.market)).0).1
+    unfolding after
+    lengths l = ap (λ p. length p.1) (turn_at l) ∙ length-append (v.one i (world_of t.market)).1 _
 
--- nothing is to come any more
-pub ends : (whole : World × List Report) (m n : Market) (rs ps : Vec code.Report Global) → UnderWay whole (world_of m, []) m n rs ps →
-    (world_of m, map report_of (vec_items rs)) ≡ after (map report_of (vec_items ps)) whole
-ends whole m n rs ps i = sym (after_none (map report_of (vec_items rs)) (world_of m)) ∙ i.is
+    -- there is room for it
+    pub turn_room : i < n → HasRoom t (v.one i)
+    turn_room l = omega (arith, lengths l, h.room)
 
--- the turns of the three loops, by how many are to come
-pub tear_from : (n b a k : ℕ) (w : World) → b < n →
-    tear (n - b) b a k w ≡ after (torn_one w a b k).1 (tear (n - (b + 1)) (b + 1) a k (torn_one w a b k).0)
-tear_from n b a k w h = let e : n - b ≡ suc (n - (b + 1)) = omega arith in rw (e, add-one b) (tear_turn (n - suc b) b a k w)
+    -- and after it one place more is done
+    pub goes_on : (u : Told) → i < n → Tells t u (v.one i) → Onward (world_of t.market) (v.one i (world_of t.market)).0 →
+        UnderWay v n (i + 1) s u
+    unfolding after
+    goes_on u l d o =
+        let step = v.one i (world_of t.market) in
+        let w : world_of u.market ≡ (v.one i (world_of t.market)).0 = ap (λ p. p.0) d.after in
+        let r : map report_of (vec_items u.reports) ≡ map report_of (vec_items t.reports) ++ (v.one i (world_of t.market)).1 =
+        ap (λ p. p.1) d.after in
+        let k = ap length r ∙ length-append (map report_of (vec_items t.reports)) (v.one i (world_of t.market)).1 in
+        let x : length (map report_of (vec_items u.reports)) ≡ vec_len u.reports = simp length-map (sym u.reports.ok.0) in
+        let y : length (map report_of (vec_items t.reports)) ≡ vec_len t.reports = simp length-map (sym t.reports.ok.0) in
+        let f : length (v.all (n - (i + 1)) (i + 1) (world_of u.market)).1 ≡
+        length (v.all (n - (i + 1)) (i + 1) (v.one i (world_of t.market)).0).1 =
+        ap (λ z. length (v.all (n - (i + 1)) (i + 1) z).1) w in
+        record {
+          is = rw (w, r) (sym (after_join (map report_of (vec_items t.reports)) step.1 (v.all (n - (i + 1)) (i + 1) step.0)) ∙
+              ap (after (map report_of (vec_items t.reports))) (sym (turn_at l)) ∙ h.is);
+          onward = record {
+            morning = subst Morning (sym w) o.morning;
+            accounts = ap (λ z. length z.accounts) w ∙ o.accounts ∙ h.onward.accounts;
+            items = ap (λ z. length z.items) w ∙ o.items ∙ h.onward.items;
+          };
+          room = omega (arith, lengths l, h.room, d.reports);
+          limits = d.limits ∙ h.limits;
+          reports = d.reports ∙ h.reports;
+        }
 
-pub items_from : (n k a : ℕ) (w : World) → k < n →
-    tear_items (n - k) k a w ≡ after (tear (length w.accounts) 0 a k w).1
-    (tear_items (n - (k + 1)) (k + 1) a (tear (length w.accounts) 0 a k w).0)
-items_from n k a w h = let e : n - k ≡ suc (n - (k + 1)) = omega arith in rw (e, add-one k) (items_turn (n - suc k) k a w)
-
-pub all_from : (n a : ℕ) (w : World) → a < n →
-    tear_all (n - a) a w ≡ after (torn_account w a).1 (tear_all (n - (a + 1)) (a + 1) (torn_account w a).0)
-all_from n a w h = let e : n - a ≡ suc (n - (a + 1)) = omega arith in rw (e, add-one a) (all_turn (n - suc a) a w)
-
-pub tear_end : (n b a k : ℕ) (w : World) → n ≤ b → tear (n - b) b a k w ≡ (w, [])
-unfolding tear
-tear_end n b a k w h = let e : n - b ≡ 0 = omega arith in rw e
-
-pub items_end : (n k a : ℕ) (w : World) → n ≤ k → tear_items (n - k) k a w ≡ (w, [])
-unfolding tear_items
-items_end n k a w h = let e : n - k ≡ 0 = omega arith in rw e
-
-pub all_end : (n a : ℕ) (w : World) → n ≤ a → tear_all (n - a) a w ≡ (w, [])
-unfolding tear_all
-all_end n a w h = let e : n - a ≡ 0 = omega arith in rw e
+    -- all are done
+    pub ends : n ≤ i → (f : World → World × List Report) → v.all n 0 (world_of s.market) ≡ f (world_of s.market) → Tells s t f
+    ends l f w =
+        let e : n - i ≡ 0 = omega arith in
+        let z : v.all (n - i) i (world_of t.market) ≡ (world_of t.market, []) = rw e (v.none i (world_of t.market)) in
+        record {
+          after = sym (after_none (map report_of (vec_items t.reports)) (world_of t.market)) ∙ (rw z at h.is) ∙
+              ap (after (map report_of (vec_items s.reports))) w;
+          limits = h.limits;
+          reports = h.reports;
+        }

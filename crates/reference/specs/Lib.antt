@@ -1,4 +1,5 @@
 pub mod Means
 pub mod Conditions
 pub mod Parts
+pub mod Does
 pub mod Plain

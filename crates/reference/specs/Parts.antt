@@ -27,11 +27,12 @@ answer taken = world.pick taken (world.done 0 ∷ []) (world.no ∷ [])
 unfoldable pub found : ℕ → ℕ → List world.Order → Option ℕ
 found a n os = world.pick (nat_lt (world.number_at a n os) (length os)) (Some (world.number_at a n os)) None
 
--- whether an order trades with the one in place i sooner than with the best behind it, in place j
-unfoldable pub first_of : world.Order → List world.Order → ℕ → ℕ → Bool
-first_of o os i j =
+-- whether an order trades with the one in place i sooner than with the best behind it, in place j, if there is one
+unfoldable pub first_of : world.Order → List world.Order → ℕ → Option ℕ → Bool
+first_of o os i None = world.meets o (slice_index_or os i world.no_order)
+first_of o os i (Some j) =
     world.meets o (slice_index_or os i world.no_order)
-    && not (nat_lt j (length os) && world.better o (slice_index_or os j world.no_order).price (slice_index_or os i world.no_order).price)
+    && not (world.better o (slice_index_or os j world.no_order).price (slice_index_or os i world.no_order).price)
 
 -- what a place asks but for what the account comes to hold and can lose
 abbrev pub well_formed : world.Limits → world.World → ℕ → ℕ → ℕ → ℕ → Bool

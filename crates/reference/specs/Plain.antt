@@ -7,12 +7,12 @@ use Rattle.reference.specs.declared.plain_market.PlainMarket.{PlainMarket}
 
 -- its limits, with the kinds of messages that it has
 abbrev pub plain_limits : PlainMarket → world.Limits
-plain_limits m = limits_of m.limits (kinds_of m.kinds)
+plain_limits m = limits_of m.told.market.limits (kinds_of m.kinds)
 
 -- the market in it
 abbrev pub plain_world : PlainMarket → world.World
-plain_world m = world_of m.market
+plain_world m = world_of m.told.market
 
 -- the reports of the last message
 abbrev pub plain_reports : PlainMarket → List world.Report
-plain_reports m = map report_of (vec_items m.reports)
+plain_reports m = map report_of (vec_items m.told.reports)

@@ -1,32 +1,31 @@
 // Cancelling an order.
-ghost use Rattle.std.specs.Prelude.{◌≡◌, ℕ, Bool, map, vec_capacity};
-ghost use Rattle.reference.specs.Means.{order_of, world_of, limits_of};
-ghost use Rattle.reference.specs.Parts.{answer, found};
+ghost use Rattle.std.specs.Prelude.{◌≡◌, map, is_ok};
+ghost use Rattle.reference.specs.Means.{order_of};
+ghost use Rattle.reference.specs.Does.{Obeys};
+ghost use Rattle.reference.specs.Parts.{found};
 ghost use Rattle.venue.specs.World as world;
 
-use crate::limits::Limits;
-use crate::market::{Market, Order};
+use crate::market::{Market, Order, Refused};
 
 // The place of the account's order with that number, if it stands.
 fn place_of(orders: &[Order], account: u16, number: u64) -> Option<usize>
     ensures { result ≡ found account number (map order_of orders.now) }
 {
-    for (i, o) in orders.iter().enumerate() {
-        if o.number == number && o.account == account {
-            return Some(i);
-        }
-    }
-    None
+    orders
+        .iter()
+        .position(|o| o.number == number && o.account == account)
 }
 
-// Whether it was taken: the order stands and is the account's.
-pub(crate) fn cancel(market: &mut Market, limits: Limits, account: u16, number: u64) -> bool
-    ensures after { (k : ℕ → Bool) → world.says_it (limits_of limits k) (world_of market.old) (world.cancel account number) ≡ (world_of market.new, answer result) }
-    ensures room { vec_capacity market.new.orders ≡ vec_capacity market.old.orders }
-{
-    let Some(at) = place_of(&market.orders, account, number) else {
-        return false;
-    };
-    let _ = market.orders.remove(at);
-    true
+impl Market {
+    // Taken if the order stands and is the account's.
+    pub(crate) fn cancel(&mut self, account: u16, number: u64) -> Result<(), Refused>
+        ensures { (z : world.Limits) → Obeys z (world.cancel account number) self.old self.new (is_ok result) }
+    {
+        // By `let .. else`, a form of docs/DECISIONS.md.
+        let Some(at) = place_of(&self.orders, account, number) else {
+            return Err(Refused);
+        };
+        let _ = self.orders.remove(at);
+        Ok(())
+    }
 }

@@ -1,15 +1,18 @@
 // The day's end: each holding's gain or loss is paid, new prices and bands hold, and orders are gone.
-ghost use Rattle.std.specs.Prelude.{◌≡◌, ℕ, ◌+◌, ◌*◌, ◌^◌, ◌<◌, ◌≤◌, Bool, ◌&&◌, map, length, slice_index_or, pos, ◌+ℤ◌, ◌-ℤ◌, ◌*ℤ◌, vec_len, vec_capacity, nat_le};
-ghost use Rattle.reference.specs.Means.{account_of, order_of, world_of, limits_of};
+// A message says where its prices start, and its bytes are passed beside: so bytes and place go along together here. The definition of the
+// prices, `column`, speaks of places in all the bytes, so a slice of them would say it no more plainly.
+ghost use Rattle.std.specs.Prelude.{◌≡◌, ℕ, ◌+◌, ◌*◌, ◌^◌, ◌<◌, ◌≤◌, ◌&&◌, map, length, slice_index_or, ◌+ℤ◌, vec_len, is_ok, nat_le};
+ghost use Rattle.reference.specs.Means.{account_of, world_of};
 ghost use Rattle.reference.specs.Conditions.{Fit, Settles, Within};
-ghost use Rattle.reference.specs.Parts.{answer};
+ghost use Rattle.reference.specs.Does.{Obeys};
 ghost use Rattle.venue.specs.World as world;
 ghost use Rattle.wire.specs.Means.{column, item_of, message_of};
 ghost use Rattle.wire.specs.declared.message.Message.TheVariants.{EndDay};
 
-use crate::limits::Limits;
-use crate::market::{Account, Market};
-use wire::{Item, item_at};
+use crate::market::{Account, Market, Refused};
+use crate::needs::product;
+use wire::read::reaches;
+use wire::{Field, Item};
 
 // Whether the new price is within the item's band, and the new band at least 1 and no larger than its price.
 fn suits(item: Item, new: Item) -> bool
@@ -25,20 +28,12 @@ fn all_fit(items: &[Item], bytes: &[u8], at: usize) -> bool
     requires { at + 8 * length items.now ≤ length bytes.now }
     ensures { result ≡ world.prices_fit (map item_of items.now) (column bytes.now at (length items.now)) (column bytes.now (at + 4) (length items.now)) }
 {
-    for k in 0..items.len() {
-        if !suits(items[k], item_at(bytes, at + 8 * k)) {
+    for (k, item) in items.iter().enumerate() {
+        if !suits(*item, Item::read(bytes, at + 8 * k)) {
             return false;
         }
     }
     true
-}
-
-// A holding times a price's change.
-fn change(held: i64, old: u32, new: u32) -> i128
-    ensures value { result ≡ held *ℤ (pos new -ℤ pos old) }
-    ensures bound { Within (2 ^ 95) result }
-{
-    i128::from(held) * (i128::from(new) - i128::from(old))
 }
 
 // What the account gains by the new prices.
@@ -50,9 +45,9 @@ fn gain(account: &Account, items: &[Item], bytes: &[u8], at: usize) -> i128
     ensures bound { Within (2 ^ 103) result }
 {
     let mut sum: i128 = 0;
-    for k in 0..items.len() {
-        let new = item_at(bytes, at + 8 * k);
-        sum += change(account.positions[k].held, items[k].price, new.price);
+    for (k, (item, position)) in items.iter().zip(&account.positions).enumerate() {
+        let new = Item::read(bytes, at + 8 * k);
+        sum += product(position.held, i64::from(new.price) - i64::from(item.price));
     }
     sum
 }
@@ -65,9 +60,9 @@ fn settle(accounts: &mut Vec<Account>, items: &[Item], bytes: &[u8], at: usize)
     requires fits { (a : ℕ) → a < vec_len accounts.old → Within 1125899906842624 ((slice_index_or (map account_of accounts.old.items) a world.nobody).cash +ℤ world.gain 0 (map item_of items.now) (column bytes.now at (length items.now)) (slice_index_or (map account_of accounts.old.items) a world.nobody)) }
     ensures { map account_of accounts.new.items ≡ world.paid (map item_of items.now) (column bytes.now at (length items.now)) (map account_of accounts.old.items) }
 {
-    for a in 0..accounts.len() {
-        let gain = gain(&accounts[a], items, bytes, at);
-        accounts[a].cash = (i128::from(accounts[a].cash) + gain) as i64;
+    for account in accounts.iter_mut() {
+        let gain = gain(account, items, bytes, at);
+        account.cash = (i128::from(account.cash) + gain) as i64;
     }
 }
 
@@ -76,28 +71,28 @@ fn renew(items: &mut Vec<Item>, bytes: &[u8], at: usize)
     requires { at + 8 * vec_len items.old ≤ length bytes.now }
     ensures { map item_of items.new.items ≡ world.new_items (column bytes.now at (vec_len items.old)) (column bytes.now (at + 4) (vec_len items.old)) }
 {
-    for k in 0..items.len() {
-        items[k] = item_at(bytes, at + 8 * k);
+    for (k, item) in items.iter_mut().enumerate() {
+        *item = Item::read(bytes, at + 8 * k);
     }
 }
 
-// Whether it was taken: there is trading, and every price and band fits.
-pub(crate) fn end_day(market: &mut Market, limits: Limits, bytes: &[u8], prices: usize) -> bool
-    requires fit { Fit (world_of market.old) }
-    requires settles { Settles (world_of market.old) }
-    ensures after { (k : ℕ → Bool) → world.says_it (limits_of limits k) (world_of market.old) (message_of bytes.now (length (world_of market.old).items) (EndDay prices)) ≡ (world_of market.new, answer result) }
-    ensures room { vec_capacity market.new.orders ≡ vec_capacity market.old.orders }
-{
-    let long = market.items.len() * 8;
-    if bytes.len() < long || prices > bytes.len() - long || !market.trading {
-        return false;
+impl Market {
+    // Taken if there is trading, and every price and band fits.
+    pub(crate) fn end_day(&mut self, bytes: &[u8], prices: usize) -> Result<(), Refused>
+        requires fit { Fit (world_of self.old) }
+        requires settles { Settles (world_of self.old) }
+        ensures { (z : world.Limits) → Obeys z (message_of bytes.now (length (world_of self.old).items) (EndDay prices)) self.old self.new (is_ok result) }
+    {
+        if !self.trading || !reaches(bytes, prices, 8 * self.items.len()) {
+            return Err(Refused);
+        }
+        if !all_fit(&self.items, bytes, prices) {
+            return Err(Refused);
+        }
+        settle(&mut self.accounts, &self.items, bytes, prices);
+        renew(&mut self.items, bytes, prices);
+        self.orders.clear();
+        self.trading = false;
+        Ok(())
     }
-    if !all_fit(&market.items, bytes, prices) {
-        return false;
-    }
-    settle(&mut market.accounts, &market.items, bytes, prices);
-    renew(&mut market.items, bytes, prices);
-    market.orders.clear();
-    market.trading = false;
-    true
 }

@@ -1,52 +1,46 @@
 // An order meets those that stand.
-ghost use Rattle.std.specs.Prelude.{◌≡◌, ◌+◌, ◌≤◌, map, length, vec_len, vec_capacity};
 ghost use Rattle.reference.specs.Means.{order_of, world_of};
 ghost use Rattle.reference.specs.Conditions.{Filling};
-ghost use Rattle.reference.specs.Parts.{after, filled};
-ghost use Rattle.wire.specs.Means.{report_of};
+ghost use Rattle.reference.specs.Does.{HasRoom, Tells};
+ghost use Rattle.reference.specs.Parts.{filled};
 
-use crate::market::{Market, Order};
-use crate::matching::comes_before;
-use crate::trades::{stand, trade};
+use crate::market::{Order, Told};
 use wire::Report;
 
-// The order trades with those that stand, one after the other; what is left of it stands, behind all.
-pub(crate) fn fill(market: &mut Market, order: Order, reports: &mut Vec<Report>)
-    requires filling { Filling (world_of market.old) (order_of order) (vec_capacity market.old.orders) }
-    requires room { vec_len reports.old + length (filled (world_of market.old) (order_of order)).1 ≤ vec_capacity reports.old }
-    ensures after { (world_of market.new, map report_of reports.new.items) ≡ after (map report_of reports.old.items) (filled (world_of market.old) (order_of order)) }
-    ensures room { (vec_capacity market.new.orders ≡ vec_capacity market.old.orders) × (vec_capacity reports.new ≡ vec_capacity reports.old) }
-{
-    let mut o = order;
-    'filling: while o.left != 0 {
-        // From the back, so that of equal prices the one that came first is met.
-        let n = market.orders.len();
-        let mut at = n;
-        let mut i = n;
-        loop {
-            if i == 0 {
-                // Nothing meets it any more.
-                if at == n {
-                    stand(market, o);
-                    break 'filling;
+impl Told {
+    // The order trades with those that stand, one after the other; what is left of it stands, behind all.
+    pub(crate) fn fill(&mut self, order: Order)
+        requires filling { Filling self.old.market.limits (world_of self.old.market) (order_of order) }
+        requires room { HasRoom self.old (λ w. filled w (order_of order)) }
+        ensures { Tells self.old self.new (λ w. filled w (order_of order)) }
+    {
+        let mut o = order;
+        // The label says which of the two loops is left.
+        'filling: while o.left != 0 {
+            // From the back, so that of equal prices the one that came first is met.
+            // Their places are kept: the order that is met is taken from its place.
+            let mut best = None;
+            for i in (0..self.market.orders.len()).rev() {
+                if o.comes_before(&self.market.orders, i, best) {
+                    best = Some(i);
                 }
-                break;
             }
-            i -= 1;
-            if comes_before(&o, &market.orders, i, at) {
-                at = i;
-            }
+            // Nothing meets it any more.
+            let Some(at) = best else {
+                self.market.stand(o);
+                break 'filling;
+            };
+            let r = self.market.orders[at];
+            let x = o.left.min(r.left);
+            self.market.trade(&o, &r, at, x);
+            self.reports.push_reserved(Report::Trade {
+                newer: o.number,
+                older: r.number,
+                item: o.item,
+                price: r.price,
+                quantity: x,
+            });
+            o.left -= x;
         }
-        let r = market.orders[at];
-        let x = if o.left < r.left { o.left } else { r.left };
-        trade(market, &o, &r, at, x);
-        reports.push_reserved(Report::Trade {
-            newer: o.number,
-            older: r.number,
-            item: o.item,
-            price: r.price,
-            quantity: x,
-        });
-        o.left -= x;
     }
 }

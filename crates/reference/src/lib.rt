@@ -1,4 +1,5 @@
 // The plain market as a program: everything is counted anew for each message.
+// `as` stands where a cast is proved to lose nothing: `try_from` would have an error that cannot come.
 #![tactic(auto)]
 
 mod cancelling;

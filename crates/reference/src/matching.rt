@@ -1,42 +1,56 @@
 // Which order another trades with, and what is left of it.
 ghost use Rattle.reference.specs.Means.{order_of};
 ghost use Rattle.reference.specs.Parts.{first_of};
-ghost use Rattle.std.specs.Prelude.{◌≡◌, ◌<◌, map, length, vec_len, vec_capacity};
+ghost use Rattle.std.specs.Prelude.{◌≡◌, ◌<◌, map, length, MatchOption, vec_len, vec_capacity};
 ghost use Rattle.venue.specs.World as world;
+ghost use Rattle.wire.specs.Means.{side_of};
 
 use crate::market::Order;
-use crate::needs::buying;
+use wire::Side;
 
-// Whether the order could trade with the other.
-fn meets(o: &Order, r: &Order) -> bool
-    ensures { result ≡ world.meets (order_of o.now) (order_of r.now) }
-{
-    if r.item != o.item {
-        return false;
+impl Order {
+    pub(crate) fn buys(&self) -> bool
+        ensures { result ≡ world.is_buy (side_of self.now.side) }
+    {
+        self.side == Side::Buy
     }
-    if buying(o.side) {
-        !buying(r.side) && r.price <= o.price
-    } else {
-        buying(r.side) && o.price <= r.price
+
+    // Whether the order could trade with the other.
+    fn meets(&self, r: &Order) -> bool
+        ensures { result ≡ world.meets (order_of self.now) (order_of r.now) }
+    {
+        if r.item != self.item {
+            return false;
+        }
+        if self.buys() {
+            !r.buys() && r.price <= self.price
+        } else {
+            r.buys() && self.price <= r.price
+        }
+    }
+
+    // Whether price p is better for the order than price q.
+    fn prefers(&self, p: u32, q: u32) -> bool
+        ensures { result ≡ world.better (order_of self.now) p q }
+    {
+        if self.buys() { p < q } else { q < p }
+    }
+
+    // Whether the order trades with the one in place i sooner than with the best behind it, in place `best`, if there is one.
+    pub(crate) fn comes_before(&self, orders: &[Order], i: usize, best: Option<usize>) -> bool
+        requires here { i < length orders.now }
+        requires behind { MatchOption best (Unit {0}) (λ j. j < length orders.now) }
+        ensures { result ≡ first_of (order_of self.now) (map order_of orders.now) i best }
+    {
+        let r = &orders[i];
+        match best {
+            None => self.meets(r),
+            Some(j) => self.meets(r) && !self.prefers(orders[j].price, r.price),
+        }
     }
 }
 
-// Whether price p is better for the order than price q.
-fn better(o: &Order, p: u32, q: u32) -> bool
-    ensures { result ≡ world.better (order_of o.now) p q }
-{
-    if buying(o.side) { p < q } else { q < p }
-}
-
-// Whether o trades with the order in place i sooner than with the best behind it, in place `at` (or in none, past the end).
-pub(crate) fn comes_before(o: &Order, orders: &[Order], i: usize, at: usize) -> bool
-    requires { i < length orders.now }
-    ensures { result ≡ first_of (order_of o.now) (map order_of orders.now) i at }
-{
-    meets(o, &orders[i]) && !(at < orders.len() && better(o, orders[at].price, orders[i].price))
-}
-
-// The order in place j has x less left, and is gone if nothing is.
+// The order in place j has x less left, and is gone if nothing is. A row alone, so it says itself that its room stays.
 pub(crate) fn take_from(orders: &mut Vec<Order>, j: usize, x: u32)
     requires { j < vec_len orders.old }
     ensures after { map order_of orders.new.items ≡ world.taken j x (map order_of orders.old.items) }

@@ -1,19 +1,16 @@
 // The day's begin: holdings that are not covered are torn up.
-ghost use Rattle.std.specs.Prelude.{◌≡◌, ℕ, ◌+◌, ◌<◌, ◌≤◌, Bool, false, map, length, vec_len, vec_capacity};
-ghost use Rattle.reference.specs.Means.{world_of, limits_of};
-ghost use Rattle.reference.specs.Conditions.{Morning, SmallSizes, Within};
-ghost use Rattle.reference.specs.Parts.{after, torn_account, torn_one};
+ghost use Rattle.std.specs.Prelude.{◌≡◌, ◌<◌, false, length};
+ghost use Rattle.reference.specs.Means.{world_of};
+ghost use Rattle.reference.specs.Conditions.{Morning, Within};
+ghost use Rattle.reference.specs.Does.{HasRoom, Tells};
+ghost use Rattle.reference.specs.Parts.{torn_account, torn_one};
 ghost use Rattle.venue.specs.World as world;
-ghost use Rattle.wire.specs.Means.{report_of};
 
-use crate::limits::Limits;
-use crate::market::Market;
-use crate::moves::{gets, held_of};
-use crate::paying::covers;
+use crate::market::Told;
 use venue::traded;
 use wire::Report;
 
-// Whether one of the two holdings is owned and the other owed.
+// Whether one of the two holdings is owned and the other owed. By cases: a product of `signum`s says it less plainly.
 fn opposite(h: i64, g: i64) -> bool
     ensures { result ≡ world.opposite h g }
 {
@@ -22,7 +19,8 @@ fn opposite(h: i64, g: i64) -> bool
 
 // The smaller of both holdings, with the sign of the first.
 fn smaller(h: i64, g: i64) -> i64
-    requires small { (Within 2147483648 h) × (Within 2147483648 g) }
+    requires h { Within 2147483648 h }
+    requires g { Within 2147483648 g }
     ensures value { result ≡ world.signed h (world.lesser (world.abs h) (world.abs g)) }
     ensures bound { Within 2147483648 result }
 {
@@ -30,94 +28,96 @@ fn smaller(h: i64, g: i64) -> i64
     if h < 0 { -size } else { size }
 }
 
-// Account a's holding of item k is torn up against b's, at the item's price, if b holds the other way.
-fn tear_with(market: &mut Market, a: u16, b: u16, k: u16, reports: &mut Vec<Report>)
-    requires here { (a < length (world_of market.old).accounts) × ((b < length (world_of market.old).accounts) × (k < length (world_of market.old).items)) }
-    requires morning { Morning (world_of market.old) }
-    requires room { vec_len reports.old + length (torn_one (world_of market.old) a b k).1 ≤ vec_capacity reports.old }
-    ensures after { (world_of market.new, map report_of reports.new.items) ≡ after (map report_of reports.old.items) (torn_one (world_of market.old) a b k) }
-    ensures room { (vec_capacity market.new.orders ≡ vec_capacity market.old.orders) × (vec_capacity reports.new ≡ vec_capacity reports.old) }
-{
-    let (mine, other) = (held_of(market, a, k), held_of(market, b, k));
-    if !opposite(mine, other) {
-        return;
+impl Told {
+    // Account a's holding of item k is torn up against b's, at the item's price, if b holds the other way.
+    fn tear_with(&mut self, a: u16, b: u16, k: u16)
+        requires account { a < length (world_of self.old.market).accounts }
+        requires other { b < length (world_of self.old.market).accounts }
+        requires item { k < length (world_of self.old.market).items }
+        requires morning { Morning (world_of self.old.market) }
+        requires room { HasRoom self.old (λ w. torn_one w a b k) }
+        ensures { Tells self.old self.new (λ w. torn_one w a b k) }
+    {
+        let (mine, other) = (self.market.held_of(a, k), self.market.held_of(b, k));
+        if !opposite(mine, other) {
+            return;
+        }
+        let held = smaller(mine, other);
+        let item = usize::from(k);
+        let price = self.market.items[item].price;
+        self.market.gets(usize::from(a), item, -held, price);
+        self.market.gets(usize::from(b), item, held, price);
+        self.reports.push_reserved(Report::Torn {
+            account: a,
+            other: b,
+            item: k,
+            held,
+        });
     }
-    let held = smaller(mine, other);
-    let item = usize::from(k);
-    let price = market.items[item].price;
-    gets(market, usize::from(a), item, -held, price);
-    gets(market, usize::from(b), item, held, price);
-    reports.push_reserved(Report::Torn {
-        account: a,
-        other: b,
-        item: k,
-        held,
-    });
-}
 
-// Account a's holding of item k is torn up, against all accounts by their numbers.
-fn tear_item(market: &mut Market, a: u16, k: u16, reports: &mut Vec<Report>)
-    requires here { (a < length (world_of market.old).accounts) × (k < length (world_of market.old).items) }
-    requires morning { (Morning (world_of market.old)) × (SmallSizes (world_of market.old)) }
-    requires room { vec_len reports.old + length (world.tear (length (world_of market.old).accounts) 0 a k (world_of market.old)).1 ≤ vec_capacity reports.old }
-    ensures after { (world_of market.new, map report_of reports.new.items) ≡ after (map report_of reports.old.items) (world.tear (length (world_of market.old).accounts) 0 a k (world_of market.old)) }
-    ensures room { (vec_capacity market.new.orders ≡ vec_capacity market.old.orders) × (vec_capacity reports.new ≡ vec_capacity reports.old) }
-{
-    for b in 0..market.accounts.len() {
-        tear_with(market, a, b as u16, k, reports);
+    // Account a's holding of item k is torn up, against all accounts by their numbers.
+    fn tear_item(&mut self, a: u16, k: u16)
+        requires account { a < length (world_of self.old.market).accounts }
+        requires item { k < length (world_of self.old.market).items }
+        requires morning { Morning (world_of self.old.market) }
+        requires room { HasRoom self.old (λ w. world.tear (length w.accounts) 0 a k w) }
+        ensures { Tells self.old self.new (λ w. world.tear (length w.accounts) 0 a k w) }
+    {
+        // By number: each turn changes the accounts, and reports the number.
+        for b in 0..self.market.accounts.len() {
+            self.tear_with(a, b as u16, k);
+        }
     }
-}
 
-// All that account a holds is torn up, item by item.
-fn tear_items(market: &mut Market, a: u16, reports: &mut Vec<Report>)
-    requires here { a < length (world_of market.old).accounts }
-    requires morning { (Morning (world_of market.old)) × (SmallSizes (world_of market.old)) }
-    requires room { vec_len reports.old + length (world.tear_items (length (world_of market.old).items) 0 a (world_of market.old)).1 ≤ vec_capacity reports.old }
-    ensures after { (world_of market.new, map report_of reports.new.items) ≡ after (map report_of reports.old.items) (world.tear_items (length (world_of market.old).items) 0 a (world_of market.old)) }
-    ensures room { (vec_capacity market.new.orders ≡ vec_capacity market.old.orders) × (vec_capacity reports.new ≡ vec_capacity reports.old) }
-{
-    for k in 0..market.items.len() {
-        tear_item(market, a, k as u16, reports);
+    // All that account a holds is torn up, item by item.
+    fn tear_items(&mut self, a: u16)
+        requires account { a < length (world_of self.old.market).accounts }
+        requires morning { Morning (world_of self.old.market) }
+        requires room { HasRoom self.old (λ w. world.tear_items (length w.items) 0 a w) }
+        ensures { Tells self.old self.new (λ w. world.tear_items (length w.items) 0 a w) }
+    {
+        // By number, as above.
+        for k in 0..self.market.items.len() {
+            self.tear_item(a, k as u16);
+        }
     }
-}
 
-// Account a is torn up if it is not covered.
-fn tear_account(market: &mut Market, a: u16, reports: &mut Vec<Report>)
-    requires here { a < length (world_of market.old).accounts }
-    requires morning { (Morning (world_of market.old)) × (SmallSizes (world_of market.old)) }
-    requires room { vec_len reports.old + length (torn_account (world_of market.old) a).1 ≤ vec_capacity reports.old }
-    ensures after { (world_of market.new, map report_of reports.new.items) ≡ after (map report_of reports.old.items) (torn_account (world_of market.old) a) }
-    ensures room { (vec_capacity market.new.orders ≡ vec_capacity market.old.orders) × (vec_capacity reports.new ≡ vec_capacity reports.old) }
-{
-    if !covers(market, a) {
-        tear_items(market, a, reports);
+    // Account a is torn up if it is not covered.
+    fn tear_account(&mut self, a: u16)
+        requires account { a < length (world_of self.old.market).accounts }
+        requires morning { Morning (world_of self.old.market) }
+        requires room { HasRoom self.old (λ w. torn_account w a) }
+        ensures { Tells self.old self.new (λ w. torn_account w a) }
+    {
+        if !self.market.covers(a) {
+            self.tear_items(a);
+        }
     }
-}
 
-// Accounts are gone through by number; those that come later are looked at with what they then hold.
-fn tear_all(market: &mut Market, reports: &mut Vec<Report>)
-    requires morning { (Morning (world_of market.old)) × (SmallSizes (world_of market.old)) }
-    requires room { vec_len reports.old + length (world.tear_all (length (world_of market.old).accounts) 0 (world_of market.old)).1 ≤ vec_capacity reports.old }
-    ensures after { (world_of market.new, map report_of reports.new.items) ≡ after (map report_of reports.old.items) (world.tear_all (length (world_of market.old).accounts) 0 (world_of market.old)) }
-    ensures room { (vec_capacity market.new.orders ≡ vec_capacity market.old.orders) × (vec_capacity reports.new ≡ vec_capacity reports.old) }
-{
-    for a in 0..market.accounts.len() {
-        tear_account(market, a as u16, reports);
+    // Accounts are gone through by number; those that come later are looked at with what they then hold.
+    fn tear_all(&mut self)
+        requires morning { Morning (world_of self.old.market) }
+        requires room { HasRoom self.old (λ w. world.tear_all (length w.accounts) 0 w) }
+        ensures { Tells self.old self.new (λ w. world.tear_all (length w.accounts) 0 w) }
+    {
+        // By number, as above.
+        for a in 0..self.market.accounts.len() {
+            self.tear_account(a as u16);
+        }
     }
-}
 
-// Refused while there is trading. Else those that are not covered are torn up, and trading begins.
-pub(crate) fn begin_day(market: &mut Market, limits: Limits, reports: &mut Vec<Report>)
-    requires morning { (((world_of market.old).trading ≡ false → Morning (world_of market.old))) × (SmallSizes (world_of market.old)) }
-    requires room { (k : ℕ → Bool) → vec_len reports.old + length (world.says_it (limits_of limits k) (world_of market.old) world.begin_day).1 ≤ vec_capacity reports.old }
-    ensures after { (k : ℕ → Bool) → (world_of market.new, map report_of reports.new.items) ≡ after (map report_of reports.old.items) (world.says_it (limits_of limits k) (world_of market.old) world.begin_day) }
-    ensures room { (vec_capacity market.new.orders ≡ vec_capacity market.old.orders) × (vec_capacity reports.new ≡ vec_capacity reports.old) }
-{
-    if market.trading {
-        reports.push_reserved(Report::Refused);
-        return;
+    // Refused while there is trading. Else those that are not covered are torn up, and trading begins.
+    pub(crate) fn begin_day(&mut self)
+        requires morning { (world_of self.old.market).trading ≡ false → Morning (world_of self.old.market) }
+        requires room { (z : world.Limits) × HasRoom self.old (λ w. world.says_it z w world.begin_day) }
+        ensures { (z : world.Limits) → Tells self.old self.new (λ w. world.says_it z w world.begin_day) }
+    {
+        if self.market.trading {
+            self.reports.push_reserved(Report::Refused);
+            return;
+        }
+        self.reports.push_reserved(Report::Taken { number: 0 });
+        self.tear_all();
+        self.market.trading = true;
     }
-    reports.push_reserved(Report::Taken { number: 0 });
-    tear_all(market, reports);
-    market.trading = true;
 }

@@ -1,29 +1,23 @@
 // What an account can lose by the day's end.
-ghost use Rattle.std.specs.Prelude.{◌≡◌, ◌^◌, ◌<◌, ◌≤◌, map, length, pos, ◌*ℤ◌, vec_len};
+ghost use Rattle.std.specs.Prelude.{◌≡◌, ◌^◌, ◌<◌, ◌≤◌, map, length, ◌*ℤ◌, vec_len};
 ghost use Rattle.reference.specs.Means.{order_of, account_of};
 ghost use Rattle.reference.specs.Conditions.{Within};
 ghost use Rattle.reference.specs.Parts.{buy_loss, sell_loss};
-ghost use Rattle.venue.specs.World.{is_buy, buys, sells, need_in, need_from};
-ghost use Rattle.wire.specs.Means.{side_of, item_of};
+ghost use Rattle.venue.specs.World.{buys, sells, need_in, need_from};
+ghost use Rattle.wire.specs.Means.{item_of};
 
 use crate::market::{Account, Order};
-use wire::{Item, Side};
-
-pub(crate) fn buying(side: Side) -> bool
-    ensures { result ≡ is_buy (side_of side) }
-{
-    match side {
-        Side::Buy => true,
-        Side::Sell => false,
-    }
-}
+use wire::Item;
 
 // What one side's orders, or one order, could lose if all are carried out.
-#[derive(Clone, Copy)]
+#[derive(Clone, Copy, Debug, PartialEq, Eq)]
 struct Losses {
     buys: u128,
     sells: u128,
 }
+
+// An account's number, an item's number and the item go along through three functions here: a struct of them would be made for each item
+// and taken apart at once. Each asks for fewer than 2^32 orders of the one row that it hands on, so that its own sum fits.
 
 // What the order could lose if it is the account's and in the item; else nothing.
 fn loss_of(o: &Order, account: u16, item: u16, at: Item) -> Losses
@@ -37,7 +31,7 @@ fn loss_of(o: &Order, account: u16, item: u16, at: Item) -> Losses
     let left = u128::from(o.left);
     let order = u128::from(o.price);
     let (price, band) = (u128::from(at.price), u128::from(at.band));
-    if buying(o.side) {
+    if o.buys() {
         Losses {
             buys: left * (order + band).saturating_sub(price),
             sells: 0,
@@ -67,12 +61,13 @@ fn losses_of(account: u16, item: u16, at: Item, orders: &[Order]) -> Losses
     Losses { buys, sells }
 }
 
-// A holding times a band.
-fn swing(held: i64, band: u32) -> i128
-    ensures value { result ≡ held *ℤ pos band }
+// A holding times a price's change or a band.
+pub(crate) fn product(held: i64, by: i64) -> i128
+    requires { Within 4294967296 by }
+    ensures value { result ≡ held *ℤ by }
     ensures bound { Within (2 ^ 95) result }
 {
-    i128::from(held) * i128::from(band)
+    i128::from(held) * i128::from(by)
 }
 
 // The most that an account can lose in an item: when the price falls by the band, or rises by it.
@@ -82,10 +77,10 @@ fn need_in(account: u16, k: u16, item: Item, held: i64, orders: &[Order]) -> i12
     ensures bound { Within (2 ^ 99) result }
 {
     let losses = losses_of(account, k, item, orders);
-    let swing = swing(held, item.band);
+    let swing = product(held, i64::from(item.band));
     let falls = swing + losses.buys as i128;
     let rises = losses.sells as i128 - swing;
-    if falls < rises { rises } else { falls }
+    falls.max(rises)
 }
 
 // The most that an account can lose.
@@ -97,8 +92,8 @@ pub(crate) fn need(account: u16, of: &Account, items: &[Item], orders: &[Order])
     ensures bound { Within (2 ^ 115) result }
 {
     let mut sum: i128 = 0;
-    for k in 0..items.len() {
-        sum += need_in(account, k as u16, items[k], of.positions[k].held, orders);
+    for (k, (item, position)) in items.iter().zip(&of.positions).enumerate() {
+        sum += need_in(account, k as u16, *item, position.held, orders);
     }
     sum
 }

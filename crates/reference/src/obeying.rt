@@ -1,78 +1,68 @@
 // What each message does.
-ghost use Rattle.std.specs.Prelude.{◌≡◌, ℕ, ◌≤◌, Bool, map, length, vec_len, vec_capacity};
+ghost use Rattle.std.specs.Prelude.{ℕ, Bool, length, is_ok};
 ghost use Rattle.reference.specs.Means.{world_of, limits_of};
 ghost use Rattle.reference.specs.Conditions.{Standing};
+ghost use Rattle.reference.specs.Does.{HasRoom, Tells};
 ghost use Rattle.reference.specs.Parts.{answer};
 ghost use Rattle.venue.specs.World as world;
-ghost use Rattle.wire.specs.Means.{message_of, report_of};
+ghost use Rattle.wire.specs.Means.{message_of};
 
-use crate::cancelling::cancel;
-use crate::evening::end_day;
-use crate::limits::Limits;
-use crate::market::{Market, Order};
-use crate::morning::begin_day;
-use crate::paying::{pay_in, pay_out};
-use crate::placing::place;
+use crate::market::{Order, Refused, Told};
 use wire::{Message, Report};
 
-// The one report of a message that places no order.
-fn report(taken: bool, reports: &mut Vec<Report>)
-    requires { (vec_len reports.old ≡ 0) × (1 ≤ vec_capacity reports.old) }
-    ensures after { map report_of reports.new.items ≡ answer taken }
-    ensures room { vec_capacity reports.new ≡ vec_capacity reports.old }
-{
-    if taken {
-        reports.push_reserved(Report::Taken { number: 0 });
-    } else {
-        reports.push_reserved(Report::Refused);
+impl Told {
+    // The one report of a message that places no order and tears nothing up.
+    fn answer(&mut self, taken: Result<(), Refused>)
+        requires room { HasRoom self.old (λ w. (w, answer (is_ok taken))) }
+        ensures { Tells self.old self.new (λ w. (w, answer (is_ok taken))) }
+    {
+        match taken {
+            Ok(()) => self.reports.push_reserved(Report::Taken { number: 0 }),
+            Err(Refused) => self.reports.push_reserved(Report::Refused),
+        }
     }
-}
 
-// The message is carried out or refused, and its reports are made.
-pub(crate) fn obey(
-    market: &mut Market,
-    limits: Limits,
-    message: Message,
-    bytes: &[u8],
-    reports: &mut Vec<Report>,
-)
-    requires standing { (k : ℕ → Bool) × Standing (limits_of limits k) (world_of market.old) (vec_capacity market.old.orders) }
-    requires none { (vec_len reports.old ≡ 0) × (1 ≤ vec_capacity reports.old) }
-    requires room { (k : ℕ → Bool) → length (world.says_it (limits_of limits k) (world_of market.old) (message_of bytes.now (length (world_of market.old).items) message)).1 ≤ vec_capacity reports.old }
-    ensures after { (k : ℕ → Bool) → (world_of market.new, map report_of reports.new.items) ≡ world.says_it (limits_of limits k) (world_of market.old) (message_of bytes.now (length (world_of market.old).items) message) }
-    ensures room { (vec_capacity market.new.orders ≡ vec_capacity market.old.orders) × (vec_capacity reports.new ≡ vec_capacity reports.old) }
-{
-    match message {
-        Message::PayIn { account, amount } => report(
-            pay_in(market, limits, account, amount),
-            reports,
-        ),
-        Message::PayOut { account, amount } => report(
-            pay_out(market, limits, account, amount),
-            reports,
-        ),
-        Message::Place {
-            account,
-            item,
-            side,
-            price,
-            quantity,
-        } => {
-            let order = Order {
-                number: market.next,
+    // The message is carried out or refused, and its reports are made.
+    pub(crate) fn obey(&mut self, message: Message, bytes: &[u8])
+        requires standing { (k : ℕ → Bool) × Standing (limits_of self.old.market.limits k) (world_of self.old.market) }
+        requires room { (k : ℕ → Bool) → HasRoom self.old (λ w. world.says_it (limits_of self.old.market.limits k) w (message_of bytes.now (length w.items) message)) }
+        ensures { (k : ℕ → Bool) → Tells self.old self.new (λ w. world.says_it (limits_of self.old.market.limits k) w (message_of bytes.now (length w.items) message)) }
+    {
+        match message {
+            Message::PayIn { account, amount } => {
+                let taken = self.market.pay_in(account, amount);
+                self.answer(taken);
+            }
+            Message::PayOut { account, amount } => {
+                let taken = self.market.pay_out(account, amount);
+                self.answer(taken);
+            }
+            Message::Place {
                 account,
                 item,
                 side,
                 price,
-                left: quantity,
-            };
-            place(market, limits, order, reports)
+                quantity,
+            } => {
+                let order = Order {
+                    number: self.market.next,
+                    account,
+                    item,
+                    side,
+                    price,
+                    left: quantity,
+                };
+                self.place(order);
+            }
+            Message::Cancel { account, number } => {
+                let taken = self.market.cancel(account, number);
+                self.answer(taken);
+            }
+            Message::EndDay { prices } => {
+                let taken = self.market.end_day(bytes, prices);
+                self.answer(taken);
+            }
+            Message::BeginDay => self.begin_day(),
         }
-        Message::Cancel { account, number } => report(
-            cancel(market, limits, account, number),
-            reports,
-        ),
-        Message::EndDay { prices } => report(end_day(market, limits, bytes, prices), reports),
-        Message::BeginDay => begin_day(market, limits, reports),
     }
 }

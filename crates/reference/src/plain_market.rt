@@ -5,9 +5,8 @@ ghost use Rattle.reference.specs.Means.{limits_of, world_of};
 ghost use Rattle.venue.specs.Sound.{Sound};
 ghost use Rattle.wire.specs.Means.{kinds_of};
 
-use crate::limits::Limits;
-use crate::market::Market;
-use wire::{Kinds, Report};
+use crate::market::Told;
+use wire::Kinds;
 
 pub mod asking;
 pub mod hearing;
@@ -16,12 +15,9 @@ pub mod making;
 // All memory is got when it is made: room for every order that may stand, and for every report that a message may have.
 #[derive(Drop)]
 pub struct PlainMarket {
-    limits: Limits,
     kinds: Kinds,
-    market: Market,
-    reports: Vec<Report>,
-    ghost sound: { Sound (limits_of limits (kinds_of kinds)) (world_of market) },
-    ghost sized: { counts_fit (length (world_of market).items) (length (world_of market).accounts) limits.orders limits.money ≡ true },
-    ghost places: { limits.orders ≤ vec_capacity market.orders },
-    ghost room: { suc (max limits.orders (length (world_of market).accounts * length (world_of market).items)) ≤ vec_capacity reports },
+    told: Told,
+    ghost sound: { Sound (limits_of told.market.limits (kinds_of kinds)) (world_of told.market) },
+    ghost sized: { counts_fit (length (world_of told.market).items) (length (world_of told.market).accounts) told.market.limits.orders told.market.limits.money ≡ true },
+    ghost room: { suc (max told.market.limits.orders (length (world_of told.market).accounts * length (world_of told.market).items)) ≤ vec_capacity told.reports },
 }

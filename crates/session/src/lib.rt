@@ -4,7 +4,9 @@
 pub mod playing;
 pub mod programs;
 pub mod stepping;
+pub mod unplayed;
 
 pub use playing::play;
 pub use programs::program;
 pub use stepping::step;
+pub use unplayed::Unplayed;

@@ -1,10 +1,10 @@
 // A file of messages, from its first byte to its last.
 use crate::stepping::step;
+use crate::unplayed::Unplayed;
 use reference::PlainMarket;
 use std::io;
 use std::io::Write;
 use text::ReportLine;
-use wire::Refusal;
 
 // Writes a line for each report of the message that was heard last.
 fn write_reports<W: Write>(out: &mut W, market: &PlainMarket) -> io::Result<()> {
@@ -19,14 +19,12 @@ pub fn play<W: Write>(
     out: &mut W,
     market: &mut PlainMarket,
     messages: &[u8],
-) -> io::Result<Option<Refusal>> {
+) -> Result<(), Unplayed> {
+    // By places: messages differ in length, and an end of day finds its prices by their place in the whole file.
     let mut at = 0;
     while at < messages.len() {
-        match step(market, messages, at) {
-            Ok(next) => at = next,
-            Err(refusal) => return Ok(Some(refusal)),
-        }
+        at = step(market, messages, at)?;
         write_reports(out, market)?;
     }
-    Ok(None)
+    Ok(())
 }

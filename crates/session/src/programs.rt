@@ -1,11 +1,12 @@
 // A whole program: NAME DISC MESSAGES.
 use crate::playing::play;
-use anyhow::anyhow;
+use crate::unplayed::Unplayed;
 use reference::PlainMarket;
 use std::io::{BufWriter, Write};
+use std::process::ExitCode;
 use std::{env, fs};
 use text::RefusalLine;
-use wire::{Kinds, Refusal};
+use wire::Kinds;
 
 // Starts a market with the disc's numbers, and plays the messages.
 fn start<W: Write>(
@@ -14,40 +15,39 @@ fn start<W: Write>(
     disc: &[u8],
     messages: &[u8],
     kinds: Kinds,
-) -> anyhow::Result<Option<Refusal>> {
-    let header = match disc::read(disc) {
-        Ok(header) => header,
-        Err(refusal) => return Ok(Some(refusal)),
-    };
+) -> Result<(), Unplayed> {
+    let header = disc::read(disc)?;
     let mut market = PlainMarket::new(rt.alloc(), &header, kinds)?;
-    Ok(play(out, &mut market, messages)?)
+    play(out, &mut market, messages)
 }
 
 // Reads the two files, and writes all lines; a refusal's line is the last.
-fn run(rt: &HostRuntime, name: &str, kinds: Kinds) -> anyhow::Result<Option<Refusal>> {
+fn run(rt: &HostRuntime, kinds: Kinds) -> Result<(), Unplayed> {
     let mut args = env::args(rt)?.skip(1);
     let (Some(disc), Some(messages), None) = (args.next(), args.next(), args.next()) else {
-        return Err(anyhow!(format!(in rt.alloc(); "usage: {name} DISC MESSAGES")?));
+        return Err(Unplayed::Usage);
     };
     let disc = fs::read(rt, disc.as_str())?;
     let messages = fs::read(rt, messages.as_str())?;
     let mut out = BufWriter::new(rt.alloc(), rt.stdout())?;
-    let refusal = start(rt, &mut out, disc.as_slice(), messages.as_slice(), kinds)?;
-    if let Some(refusal) = refusal {
-        writeln!(out, "{}", RefusalLine(refusal))?;
+    let played = start(rt, &mut out, disc.as_slice(), messages.as_slice(), kinds);
+    match &played {
+        Ok(()) => {}
+        Err(Unplayed::Refused(refusal)) => writeln!(out, "{}", RefusalLine(*refusal))?,
+        Err(_) => return played,
     }
     out.flush()?;
-    Ok(refusal)
+    played
 }
 
-// Runs the program `name` with a market of these kinds. A refused disc or message is an error, and so is all that the system refuses.
-pub fn program(rt: &HostRuntime, name: &str, kinds: Kinds) -> anyhow::Result<()> {
-    match run(rt, name, kinds) {
-        Ok(None) => Ok(()),
-        Ok(Some(_)) => Err(anyhow!("refused")),
-        Err(error) => {
-            eprintln!(rt; "{name}: {error}")?;
-            Err(error)
-        }
-    }
+// Runs the program `name` with a market of these kinds. A refused disc or message is a failure, and so is all that the system refuses.
+pub fn program(rt: &HostRuntime, name: &str, kinds: Kinds) -> ExitCode {
+    // Where standard error takes no line either, the status alone says that the program failed.
+    let _ = match run(rt, kinds) {
+        Ok(()) => return ExitCode::SUCCESS,
+        Err(Unplayed::Refused(_)) => Ok(()),
+        Err(Unplayed::Usage) => eprintln!(rt; "{name}: usage: {name} DISC MESSAGES"),
+        Err(error) => eprintln!(rt; "{name}: {error}"),
+    };
+    ExitCode::FAILURE
 }

@@ -1,7 +1,2 @@
-mod Runs
 mod Numerals
-mod Items
-mod Plans
-mod Follows
-mod Ends
-mod Firsts
+mod FirstLine

@@ -44,7 +44,7 @@ word_of w =
     (cond (bytes_eq w (codes "money")) word.Money
     (cond (bytes_eq w (codes "journal")) word.Journal (cond (bytes_eq w (codes "item")) word.Item word.Unknown)))))
 
--- what a word and its number or item say; what is missing, malformed, out of range or not alone is out of range
+-- what a word and its number say; what is missing, malformed, out of range or not alone is out of range
 abbrev pub with_number : Word → Option ℕ → Result Entry What
 with_number w None = Err OutOfRange
 with_number word.Blank (Some n) = Err UnknownWord
@@ -55,6 +55,7 @@ with_number word.Journal (Some n) = Ok (Journal n)
 with_number word.Item (Some n) = Err UnknownWord
 with_number word.Unknown (Some n) = Err UnknownWord
 
+-- what the word "item" and its item say
 abbrev pub with_item : Option item.Item → Result Entry What
 with_item None = Err OutOfRange
 with_item (Some i) = Ok (Item i)

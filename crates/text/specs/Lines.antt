@@ -8,7 +8,7 @@ use Rattle.text.specs.declared.fault.Fault.{Fault}
 use Rattle.text.specs.declared.fault.What.{What}
 use Rattle.text.specs.declared.fault.What.TheVariants.{UnknownWord, OutOfRange, Twice, Missing, NoItem, TooManyItems}
 
--- taken, with the new order's number or 0; refused; a trade of the newer and the older order; a holding torn up, with its sign
+-- a report's line: taken, with the new order's number or 0; refused; a trade of the newer and the older order; a holding torn up, with its sign
 abbrev pub report_line : Report → List ℕ
 report_line (done n) = codes "taken " ++ decimal n
 report_line no = codes "refused"
@@ -25,10 +25,11 @@ refused_what n = cond (nat_lt n 6) (codes "disc refused ") (codes "message refus
 abbrev pub refusal_line : ℕ → ℕ → List ℕ
 refusal_line n i = refused_what n ++ (decimal n ++ (codes " at " ++ decimal i))
 
+-- the line of a refusal
 abbrev pub line_of_refusal : Refusal → List ℕ
 line_of_refusal r = refusal_line (refusal_number r) (refusal_place r)
 
--- a fault of a setup file: its line's number, and what is wrong
+-- what is wrong with a setup file, in words
 abbrev pub what_text : What → List ℕ
 what_text UnknownWord = codes "unknown word"
 what_text OutOfRange = codes "number missing or out of range"
@@ -37,5 +38,6 @@ what_text Missing = codes "accounts, orders or money missing"
 what_text NoItem = codes "no item"
 what_text TooManyItems = codes "more than 256 items"
 
+-- a fault of a setup file: its line's number, and what is wrong
 abbrev pub fault_line : Fault → List ℕ
 fault_line f = codes "line " ++ (decimal f.line ++ (codes ": " ++ what_text f.what))

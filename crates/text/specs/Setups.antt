@@ -1,14 +1,16 @@
 -- What a setup file says as a whole: a new disc's numbers and its journals' length, or the first fault. Assumes nothing: these are definitions.
-use Rattle.std.specs.Prelude.{ℕ, ◌+◌, cond, List, [], ◌∷◌, ◌++◌, map, length, take, Some, None, Ok, Err, Option, Result, ◌==◌, nat_lt}
+use Rattle.std.specs.Prelude.{ℕ, ◌+◌, cond, List, [], ◌∷◌, ◌++◌, map, length, Some, None, Ok, Err, Option, Result, ◌==◌, nat_lt}
 use Rattle.venue.specs.World as world
 use Rattle.wire.specs.Means.{item_of}
 use Rattle.wire.specs.declared.item.Item as item
+use Rattle.disc.specs.Few.{few_items}
 use Rattle.disc.specs.Layout.{least_journal}
 use Rattle.disc.specs.Means.{header_of}
-use Rattle.disc.specs.Numbers.{Numbers, in_range, numbers_from}
+use Rattle.disc.specs.Numbers.{Numbers, in_range, numbers_of}
 use Rattle.text.specs.Entries.{entry_of}
 use Rattle.text.specs.Words.{before_comment, lines}
 use Rattle.text.specs.declared.draft.Draft.{Draft}
+use Rattle.text.specs.declared.draft.JournalLength.{JournalLength}
 use Rattle.text.specs.declared.entry.Entry.{Entry}
 use Rattle.text.specs.declared.entry.Entry.TheVariants.{Nothing, Accounts, Orders, Money, Journal, Item}
 use Rattle.text.specs.declared.fault.Fault.{Fault}
@@ -25,21 +27,33 @@ pub record Plan : Type 0 where
   pub journal_line : ℕ
   pub items : List world.Item
 
+-- how many blocks each journal has, if a line said it
+abbrev pub journal_of : Option JournalLength → Option ℕ
+journal_of None = None
+journal_of (Some j) = Some j.blocks
+
+-- the line that said how many blocks each journal has, or 0
+abbrev pub journal_line_of : Option JournalLength → ℕ
+journal_line_of None = 0
+journal_line_of (Some j) = j.line
+
+-- what a draft says
 abbrev pub plan_of : Draft → Plan
 plan_of d =
     record {
       accounts = d.accounts;
       orders = d.orders;
       money = d.money;
-      journal = d.journal;
-      journal_line = d.journal_line;
-      items = map item_of (take d.count d.items);
+      journal = journal_of d.journal;
+      journal_line = journal_line_of d.journal;
+      items = map item_of (few_items d.items);
     }
 
 -- the numbers of a draft, with what else was said
 abbrev pub planned : Draft → ℕ → ℕ → ℕ → Numbers
-planned d a o m = numbers_from d.count d.items a o m
+planned d a o m = numbers_of (few_items d.items) a o m
 
+-- before the first line
 abbrev pub nothing_said : Plan
 nothing_said = record { accounts = None; orders = None; money = None; journal = None; journal_line = 0; items = [] }
 
@@ -73,10 +87,12 @@ put_in k p (Journal n) =
     once p.journal (record { accounts = p.accounts; orders = p.orders; money = p.money; journal = Some n; journal_line = k; items = p.items })
 put_in k p (Item i) = add_item p i
 
+-- a plan with what line k says, if that can be read
 abbrev pub then_put : ℕ → Plan → Result Entry What → Result Plan What
 then_put k p (Err w) = Err w
 then_put k p (Ok e) = put_in k p e
 
+-- a plan with line k
 unfoldable pub line_in : ℕ → Plan → List ℕ → Result Plan What
 line_in k p l = then_put k p (entry_of (before_comment l))
 
@@ -85,6 +101,7 @@ pub record Described : Type 0 where
   pub numbers : Numbers
   pub journal : ℕ
 
+-- what a setup that was read says
 abbrev pub described_by : Setup → Described
 described_by s = record { numbers = header_of s.header; journal = s.journal }
 
@@ -114,6 +131,7 @@ finished k (Some a) (Some o) (Some m) p =
     cond (length p.items == 0) (Err (record { line = k; what = NoItem }))
     (checked k p.journal_line (record { items = p.items; accounts = a; orders = o; money = m }) (journal_or p.journal))
 
+-- what a plan comes to, where k is the line after the last
 unfoldable pub finish : ℕ → Plan → Result Described Fault
 finish k p = finished k p.accounts p.orders p.money p
 

@@ -1,19 +1,24 @@
 // What a setup file has said so far.
-ghost use Rattle.std.specs.Prelude.{◌≡◌, ◌≤◌, length};
-
+use disc::Few;
 use wire::Item;
 
-#[derive(Clone, Copy)]
+mod ending;
+mod filling;
+
+// How many blocks each journal has, and the line that said it.
+#[derive(Clone, Copy, Debug, PartialEq, Eq)]
+pub struct JournalLength {
+    pub blocks: u64,
+    pub line: usize,
+}
+
+#[derive(Clone, Copy, Debug, PartialEq, Eq)]
 pub struct Draft {
+    // The line that comes next, from 1 on.
+    pub line: usize,
     pub accounts: Option<u64>,
     pub orders: Option<u64>,
     pub money: Option<u64>,
-    pub journal: Option<u64>,
-    // The line that gave the journals' length.
-    pub journal_line: usize,
-    pub count: usize,
-    // The first `count` are meant.
-    pub items: [Item; 256],
-    ghost few: { count ≤ 256 },
-    ghost room: { length items ≡ 256 },
+    pub journal: Option<JournalLength>,
+    pub items: Few<Item, 256>,
 }

@@ -1,19 +1,14 @@
-// One line of a setup file.
-ghost use Rattle.std.specs.Str.{bytes_eq};
-ghost use Rattle.text.specs.Entries.{bounded, entry_by, entry_of, item_from, nothing_left, one_item, one_number, with_item, with_number, word_of};
-ghost use Rattle.std.specs.Prelude.{◌≡◌};
+// One line of a setup file. Three functions give the same fault, each exactly where its own definition gives nothing.
+ghost use Rattle.std.specs.Prelude.{◌≡◌, ◌≤◌, Some, None, IfOk, IfErr};
+ghost use Rattle.text.specs.Entries.{bounded, entry_by, entry_of, nothing_left, one_item, one_number};
+ghost use Rattle.text.specs.Words.{number};
+ghost use Rattle.text.specs.declared.fault.What.TheVariants.{OutOfRange};
 
 use crate::entry::{Entry, Word};
 use crate::fault::What;
 use crate::number::number_in;
 use crate::words::first_word;
 use wire::Item;
-
-fn same(word: &[u8], name: &[u8]) -> bool
-    ensures { result ≡ bytes_eq word.now name.now }
-{
-    word == name
-}
 
 fn nothing_left(bytes: &[u8]) -> bool
     ensures { result ≡ nothing_left bytes.now }
@@ -22,98 +17,44 @@ fn nothing_left(bytes: &[u8]) -> bool
     word.is_empty()
 }
 
-fn bounded(low: u64, high: u64, n: Option<u64>) -> Option<u64>
-    ensures { result ≡ bounded low high n }
+// The number that the word is, if it is from `low` to `high`.
+fn bounded(low: u64, high: u64, word: &[u8]) -> Result<u64, What>
+    ensures found { IfOk result (λ n. (bounded low high (number word.now) ≡ Some n) × (n ≤ high)) }
+    ensures fault { IfErr result (λ w. (w ≡ OutOfRange) × (bounded low high (number word.now) ≡ None)) }
 {
-    match n {
-        Some(n) if low <= n && n <= high => Some(n),
-        _ => None,
-    }
+    number_in(word)
+        .filter(|n| low <= *n && *n <= high)
+        .ok_or(What::OutOfRange)
 }
 
 // One number from `low` to `high`, and nothing behind it.
-fn one_number(low: u64, high: u64, bytes: &[u8]) -> Option<u64>
-    ensures { result ≡ one_number low high bytes.now }
+#[tactic(auto, unfolding(crate::specs::Entries::one_number))]
+fn one_number(low: u64, high: u64, bytes: &[u8]) -> Result<u64, What>
+    ensures found { IfOk result (λ n. (one_number low high bytes.now ≡ Some n) × (n ≤ high)) }
+    ensures fault { IfErr result (λ w. (w ≡ OutOfRange) × (one_number low high bytes.now ≡ None)) }
 {
     let (word, rest) = first_word(bytes);
-    if nothing_left(rest) {
-        bounded(low, high, number_in(word))
-    } else {
-        None
+    let n = bounded(low, high, word)?;
+    if !nothing_left(rest) {
+        return Err(What::OutOfRange);
     }
+    Ok(n)
 }
 
-// An item with this price and band, if they are in range.
-fn item_from(price: Option<u64>, band: Option<u64>) -> Option<Item>
-    ensures { result ≡ item_from price band }
+// A price and a band in range, and nothing behind them.
+#[tactic(auto, unfolding(crate::specs::Entries::one_item, crate::specs::Entries::one_number))]
+fn one_item(bytes: &[u8]) -> Result<Item, What>
+    ensures found { IfOk result (λ i. one_item bytes.now ≡ Some i) }
+    ensures fault { IfErr result (λ w. (w ≡ OutOfRange) × (one_item bytes.now ≡ None)) }
 {
-    let Some(price) = price else { return None };
-    let Some(band) = band else { return None };
-    if price < 1 || price > 1_000_000 || band < 1 || band > price {
-        return None;
-    }
-    Some(Item {
+    let (word, rest) = first_word(bytes);
+    let price = bounded(1, 1_000_000, word)?;
+    let band = one_number(1, price, rest)?;
+    // Casts that lose nothing: `try_from` would ask for a fault that cannot be.
+    Ok(Item {
         price: price as u32,
         band: band as u32,
     })
-}
-
-// A price and a band, and nothing behind them.
-fn one_item(bytes: &[u8]) -> Option<Item>
-    ensures { result ≡ one_item bytes.now }
-{
-    let (price, rest) = first_word(bytes);
-    let (band, rest) = first_word(rest);
-    if nothing_left(rest) {
-        item_from(number_in(price), number_in(band))
-    } else {
-        None
-    }
-}
-
-fn word_of(word: &[u8]) -> Word
-    ensures { result ≡ word_of word.now }
-{
-    if word.is_empty() {
-        Word::Blank
-    } else if same(word, b"accounts") {
-        Word::Accounts
-    } else if same(word, b"orders") {
-        Word::Orders
-    } else if same(word, b"money") {
-        Word::Money
-    } else if same(word, b"journal") {
-        Word::Journal
-    } else if same(word, b"item") {
-        Word::Item
-    } else {
-        Word::Unknown
-    }
-}
-
-// What the number behind a word says, if it is there.
-fn with_number(word: Word, n: Option<u64>) -> Result<Entry, What>
-    ensures { result ≡ with_number word n }
-{
-    let Some(n) = n else {
-        return Err(What::OutOfRange)
-    };
-    match word {
-        Word::Accounts => Ok(Entry::Accounts(n)),
-        Word::Orders => Ok(Entry::Orders(n)),
-        Word::Money => Ok(Entry::Money(n)),
-        Word::Journal => Ok(Entry::Journal(n)),
-        _ => Err(What::UnknownWord),
-    }
-}
-
-fn with_item(item: Option<Item>) -> Result<Entry, What>
-    ensures { result ≡ with_item item }
-{
-    match item {
-        Some(item) => Ok(Entry::Item(item)),
-        None => Err(What::OutOfRange),
-    }
 }
 
 // What a line says by its first word and what stands behind that.
@@ -122,19 +63,24 @@ fn entry_by(word: Word, rest: &[u8]) -> Result<Entry, What>
 {
     match word {
         Word::Blank => Ok(Entry::Nothing),
-        Word::Accounts => with_number(word, one_number(1, 4096, rest)),
-        Word::Orders => with_number(word, one_number(1, 65536, rest)),
-        Word::Money => with_number(word, one_number(0, 1_125_899_906_842_624, rest)),
-        Word::Journal => with_number(word, one_number(1, 1_048_576, rest)),
-        Word::Item => with_item(one_item(rest)),
+        Word::Accounts => Ok(Entry::Accounts(one_number(1, 4096, rest)?)),
+        Word::Orders => Ok(Entry::Orders(one_number(1, 65536, rest)?)),
+        Word::Money => Ok(Entry::Money(one_number(0, 1_125_899_906_842_624, rest)?)),
+        Word::Journal => Ok(Entry::Journal(one_number(1, 1_048_576, rest)?)),
+        Word::Item => Ok(Entry::Item(one_item(rest)?)),
         Word::Unknown => Err(What::UnknownWord),
     }
 }
 
 // What a line without its comment says.
-pub(crate) fn entry(line: &[u8]) -> Result<Entry, What>
-    ensures { result ≡ entry_of line.now }
-{
-    let (word, rest) = first_word(line);
-    entry_by(word_of(word), rest)
+impl TryFrom<&[u8]> for Entry {
+    type Error = What;
+
+    ghost try_from_gives = { λ l r. r ≡ entry_of l.now };
+
+    #[tactic(auto, unfolding(crate::specs::Entries::entry_of))]
+    fn try_from(line: &[u8]) -> Result<Entry, What> {
+        let (word, rest) = first_word(line);
+        entry_by(Word::from(word), rest)
+    }
 }

@@ -1,5 +1,6 @@
 pub mod Places
 pub mod Numbers
+pub mod Parts
 pub mod Columns
 pub mod Rows
 pub mod Whole

@@ -1,24 +1,24 @@
 -- Numbers at a place in bytes: what was written is read, and what is read is what was written; one step for each doubling of the width.
-use Rattle.std.proofs.Common.{◌≡◌, ℕ, ◌+◌, ◌*◌, ◌/◌, ◌%◌, ◌<◌, ◌≤◌, List, [], ◌∷◌, ◌++◌, length, get_or, refl, ap, ◌∙◌, subst, arith}
+use Rattle.std.proofs.Common.{◌≡◌, ℕ, ◌+◌, ◌*◌, ◌/◌, ◌%◌, ◌^◌, ◌<◌, ◌≤◌, List, [], ◌∷◌, ◌++◌, length, get_or, w64, to_z, of_z, sym, refl, ap, ◌∙◌, subst, arith, length-append}
+use Rattle.std.specs.Prelude.{FitsSigned, slice_index}
+use mir.Facts.{Fits-of_z, sfits_to_z}
+use Rattle.std.proofs.Math.Nat.{add_comm, div-lt_iff_lt-mul, mod-lt}
+use Rattle.std.proofs.lemmas.Nat.{div-add-mod', div-mul-add, mod-mul-add, mul-add-lt}
+use Rattle.std.proofs.lemmas.Int.{of_z-to_z, to_z-of_z}
 use Rattle.std.proofs.lemmas.List.{drop_more}
+use Rattle.wire.specs.Field.{Bytes, FieldLaws, Holds}
 use Rattle.wire.specs.Number.{two, four, eight, two_of, four_of, eight_of}
-use Rattle.wire.proofs.Places.{Holds, Bytes, front, behind, both, held}
+use Rattle.wire.specs.Reports.{signed, signed_of}
+use Rattle.wire.proofs.Places.{front, behind, both, held}
 
-pub length_two : (x : ℕ) → length (two_of x) ≡ 2
-unfolding two_of
-length_two x = refl
+pub byte_laws : FieldLaws 1 (λ x. x ∷ []) slice_index (λ x. x < 256)
+byte_laws = record {
+  sized = λ x. refl;
+  back = λ bs i x l h. let z : i + 0 ≡ i = omega arith in rw z at (held bs i 0 (x ∷ []) (omega arith) h);
+  only = λ bs i b l. let h : i < length bs = omega arith in (rw (drop_more bs i 0 h), b i);
+}
 
-pub length_four : (x : ℕ) → length (four_of x) ≡ 4
-unfolding two_of four_of
-length_four x = refl
-
-pub length_eight : (x : ℕ) → length (eight_of x) ≡ 8
-unfolding two_of four_of eight_of
-length_eight x = refl
-
--- ---- what was written is read
-
-pub two_held : (bs : List ℕ) (i x : ℕ) → x < 65536 → Holds bs i (two_of x) → two bs i ≡ x
+two_held : (bs : List ℕ) (i x : ℕ) → x < 65536 → Holds bs i (two_of x) → two bs i ≡ x
 unfolding two_of
 two_held bs i x l h =
     let a : get_or bs (i + 0) 0 ≡ x % 256 = held bs i 0 (two_of x) (omega arith) h in
@@ -26,42 +26,6 @@ two_held bs i x l h =
     let z : i + 0 ≡ i = omega arith in
     let c : get_or bs i 0 ≡ x % 256 = rw z at a in
     omega arith
-
-pub four_held : (bs : List ℕ) (i x : ℕ) → x < 4294967296 → Holds bs i (four_of x) → four bs i ≡ x
-unfolding four_of
-four_held bs i x l h =
-    let u = two_of (x % 65536) in
-    let v = two_of (x / 65536) in
-    let e : i + length u ≡ i + 2 = rw length_two in
-    let a = two_held bs i (x % 65536) (omega arith) (front bs i u v h) in
-    let b = two_held bs (i + 2) (x / 65536) (omega arith) (behind bs i (i + 2) u v e h) in
-    rw (a, b) (omega arith)
-
-pub eight_held : (bs : List ℕ) (i x : ℕ) → x < 18446744073709551616 → Holds bs i (eight_of x) → eight bs i ≡ x
-unfolding eight_of
-eight_held bs i x l h =
-    let u = four_of (x % 4294967296) in
-    let v = four_of (x / 4294967296) in
-    let e : i + length u ≡ i + 4 = rw length_four in
-    let a = four_held bs i (x % 4294967296) (omega arith) (front bs i u v h) in
-    let b = four_held bs (i + 4) (x / 4294967296) (omega arith) (behind bs i (i + 4) u v e h) in
-    rw (a, b) (omega arith)
-
--- ---- what is read is what was written
-
-pub two_below : (bs : List ℕ) (i : ℕ) → Bytes bs → two bs i < 65536
-two_below bs i b = omega (arith, b i, b (i + 1))
-
-pub four_below : (bs : List ℕ) (i : ℕ) → Bytes bs → four bs i < 4294967296
-four_below bs i b = omega (arith, two_below bs i b, two_below bs (i + 2) b)
-
-pub eight_below : (bs : List ℕ) (i : ℕ) → Bytes bs → eight bs i < 18446744073709551616
-eight_below bs i b = omega (arith, four_below bs i b, four_below bs (i + 4) b)
-
-pub byte_stands : (bs : List ℕ) (i : ℕ) → i + 1 ≤ length bs → Holds bs i (get_or bs i 0 ∷ [])
-byte_stands bs i l =
-    let h : i < length bs = omega arith in
-    rw (drop_more bs i 0 h)
 
 two_cons : (x y : ℕ) → x < 256 → y < 256 → x ∷ (y ∷ []) ≡ two_of (x + y * 256)
 unfolding two_of
@@ -71,42 +35,59 @@ two_cons x y a b =
     let g : y % 256 ≡ y = omega arith in
     rw (e, f, g)
 
-pub two_stands : (bs : List ℕ) (i : ℕ) → Bytes bs → i + 2 ≤ length bs → Holds bs i (two_of (two bs i))
+two_stands : (bs : List ℕ) (i : ℕ) → Bytes bs → i + 2 ≤ length bs → Holds bs i (two_of (two bs i))
 two_stands bs i b l =
     subst (Holds bs i) (two_cons (get_or bs i 0) (get_or bs (i + 1) 0) (b i) (b (i + 1)))
-    (both bs i (i + 1) (get_or bs i 0 ∷ []) (get_or bs (i + 1) 0 ∷ []) refl (byte_stands bs i (omega arith)) (byte_stands bs (i + 1) (omega arith)))
+    (both bs i (i + 1) (get_or bs i 0 ∷ []) (get_or bs (i + 1) 0 ∷ []) refl
+    ((byte_laws.only bs i b (omega arith)).0) ((byte_laws.only bs (i + 1) b (omega arith)).0))
 
-four_join : (x y : ℕ) → x < 65536 → two_of x ++ two_of y ≡ four_of (x + y * 65536)
+pub two_laws : FieldLaws 2 two_of two (λ x. x < 2 ^ 16)
+unfolding two_of
+two_laws = record {
+  sized = λ x. refl;
+  back = two_held;
+  only = λ bs i b l. (two_stands bs i b l, omega (arith, b i, b (i + 1)));
+}
+
+-- a number of twice the width, whose halves are below m
+doubled : (n m : ℕ) (f : ℕ → List ℕ) (p : List ℕ → ℕ → ℕ) → 0 < m → FieldLaws n f p (λ x. x < m) →
+    FieldLaws (n + n) (λ x. f (x % m) ++ f (x / m)) (λ bs i. p bs i + p bs (i + n) * m) (λ x. x < m * m)
+doubled n m f p z l = record {
+  sized = λ x. simp (length-append, l.sized);
+  back = λ bs i x k h.
+      let e : i + length (f (x % m)) ≡ i + n = ap (λ j. i + j) (l.sized (x % m)) in
+      let a = l.back bs i (x % m) (mod-lt x z) (front bs i (f (x % m)) (f (x / m)) h) in
+      let b = l.back bs (i + n) (x / m) ((div-lt_iff_lt-mul z).1 k) (behind bs i (i + n) (f (x % m)) (f (x / m)) e h) in
+      rw (a, b, add_comm) (div-add-mod' x m);
+  only = λ bs i b k.
+      let q = p bs i in
+      let r = p bs (i + n) in
+      let s = l.only bs i b (omega arith) in
+      let t = l.only bs (i + n) b (omega arith) in
+      let e : i + length (f q) ≡ i + n = ap (λ j. i + j) (l.sized q) in
+      let c = add_comm q (r * m) in
+      let d : (q + r * m) % m ≡ q = rw c (mod-mul-add r m q s.1) in
+      let g : (q + r * m) / m ≡ r = rw c (div-mul-add r m q s.1) in
+      (rw (d, g) (both bs i (i + n) (f q) (f r) e s.0 t.0), rw c (mul-add-lt r m q m t.1 s.1));
+}
+
+pub four_laws : FieldLaws 4 four_of four (λ x. x < 2 ^ 32)
 unfolding four_of
-four_join x y a =
-    let e : (x + y * 65536) % 65536 ≡ x = omega arith in
-    let f : (x + y * 65536) / 65536 ≡ y = omega arith in
-    rw (e, f)
+four_laws = doubled 2 65536 two_of two (omega arith) two_laws
 
-pub four_stands : (bs : List ℕ) (i : ℕ) → Bytes bs → i + 4 ≤ length bs → Holds bs i (four_of (four bs i))
-four_stands bs i b l =
-    let u = two bs i in
-    let v = two bs (i + 2) in
-    let e : i + length (two_of u) ≡ i + 2 = rw length_two in
-    let h : (i + 2) + 2 ≤ length bs = omega arith in
-    subst (Holds bs i) (four_join u v (two_below bs i b))
-    (both bs i (i + 2) (two_of u) (two_of v) e (two_stands bs i b (omega arith)) (two_stands bs (i + 2) b h))
-
-eight_join : (x y : ℕ) → x < 4294967296 → four_of x ++ four_of y ≡ eight_of (x + y * 4294967296)
+pub eight_laws : FieldLaws 8 eight_of eight (λ x. x < 2 ^ 64)
 unfolding eight_of
-eight_join x y a =
-    let e : (x + y * 4294967296) % 4294967296 ≡ x = omega arith in
-    let f : (x + y * 4294967296) / 4294967296 ≡ y = omega arith in
-    rw (e, f)
+eight_laws = doubled 4 4294967296 four_of four (omega arith) four_laws
 
-pub eight_stands : (bs : List ℕ) (i : ℕ) → Bytes bs → i + 8 ≤ length bs → Holds bs i (eight_of (eight bs i))
-eight_stands bs i b l =
-    let u = four bs i in
-    let v = four bs (i + 4) in
-    let e : i + length (four_of u) ≡ i + 4 = rw length_four in
-    let h : (i + 4) + 4 ≤ length bs = omega arith in
-    subst (Holds bs i) (eight_join u v (four_below bs i b))
-    (both bs i (i + 4) (four_of u) (four_of v) e (four_stands bs i b (omega arith)) (four_stands bs (i + 4) b h))
+pub signed_laws : FieldLaws 8 signed_of signed (λ z. FitsSigned w64 z)
+unfolding signed_of
+signed_laws = record {
+  sized = λ z. eight_laws.sized (of_z w64 z);
+  back = λ bs i z f h. ap (to_z w64) (eight_laws.back bs i (of_z w64 z) (Fits-of_z f).fits h) ∙ to_z-of_z w64 z f;
+  only = λ bs i b l.
+      let e = eight_laws.only bs i b l in
+      (subst (λ (x : ℕ). Holds bs i (eight_of x)) (sym (of_z-to_z w64 (eight bs i) e.1)) e.0, sfits_to_z (record { fits = e.1 }));
+}
 
 -- ---- a number's bytes, one by one
 

@@ -1,14 +1,7 @@
 -- Bytes that stand at a place in others: the numbers that lie there, and the bytes that a number there has.
 use Rattle.std.proofs.Common.{◌≡◌, ℕ, ◌+◌, ◌<◌, ◌≤◌, List, ◌++◌, length, get_or, take, drop, sym, refl, ap, ◌∙◌, arith, length-append, length-drop, length-take, take-add}
+use Rattle.wire.specs.Field.{Holds}
 use Rattle.std.proofs.lemmas.List.{take-take, take_at, drop_at, drop-take, drop-drop, get_or-take, get_or-drop}
-
--- the bytes xs stand at place i of bs
-abbrev pub Holds : List ℕ → ℕ → List ℕ → Type 0
-Holds bs i xs = take (length xs) (drop i bs) ≡ xs
-
--- each number is a byte
-abbrev pub Bytes : List ℕ → Type 0
-Bytes bs = (k : ℕ) → get_or bs k 0 < 256
 
 -- ---- the parts of what stands there
 

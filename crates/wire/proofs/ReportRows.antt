@@ -4,11 +4,12 @@ use Rattle.std.proofs.lemmas.List.{drop-drop}
 use Rattle.std.proofs.lemmas.Bool.{le-leb, leb-true}
 use Rattle.std.specs.List.{flat_map, AllByRecursion}
 use Rattle.venue.specs.World as world
+use Rattle.wire.specs.Field.{Bytes, Holds}
 use Rattle.wire.specs.Laws.{ReportBack, ReportOnly, ReportsBack, ReportsOnly}
 use Rattle.wire.specs.Number.{four, four_of}
 use Rattle.wire.specs.Reports.{after, go_on, reads_report, reads_reports, reads_row, report_bytes, ReportFits, reports_bytes}
-use Rattle.wire.proofs.Numbers.{length_four, four_below, four_held, four_stands}
-use Rattle.wire.proofs.Places.{Bytes, Holds, front, behind, inside}
+use Rattle.wire.proofs.Numbers.{four_laws}
+use Rattle.wire.proofs.Places.{front, behind, inside}
 use Rattle.wire.proofs.ReportBack.{report_read}
 use Rattle.wire.proofs.ReportOnly.{report_only}
 use Rattle.wire.proofs.Whole.{all_bytes, by_pick, cut, some_pair, stands}
@@ -38,9 +39,9 @@ unfolding reads_reports reports_bytes
 reports_read bs rs i f l h =
     let x = four_of (length rs) in
     let xs = flat_map report_bytes rs in
-    let n = length_four (length rs) in
-    let d : i + length x ≡ i + 4 = rw length_four in
-    let e = four_held bs i (length rs) l (front bs i x xs h) in
+    let n = four_laws.sized (length rs) in
+    let d : i + length x ≡ i + 4 = ap (λ (k : ℕ). i + k) n in
+    let e = four_laws.back bs i (length rs) l (front bs i x xs h) in
     let m = row_read bs rs (i + 4) f (behind bs i (i + 4) x xs d h) in
     let k : i + length x ≤ length bs = inside bs i x (omega arith) (front bs i x xs h) in
     let t = le-leb (i + 4) (length bs) (omega arith) in
@@ -68,7 +69,7 @@ row_cons bs i n r j rs k h t =
 row_two : (n : ℕ) (bs : List ℕ) (i : ℕ) (rs : List world.Report) (k : ℕ) (r : world.Report) (j : ℕ) (o : Option (List world.Report × ℕ)) →
     (take j (drop i bs) ≡ report_bytes r) × ReportFits r → ((qs : List world.Report) (l : ℕ) → o ≡ Some (qs, l) → Row bs (i + j) n qs l) →
     after (r ∷ []) j o ≡ Some (rs, k) → Row bs i (suc n) rs k
-row_two n bs i rs k r j None h more w = let z : ◌≡◌ {A = ℕ} 0 1 = cc in absurd (omega arith)
+row_two n bs i rs k r j None h more w = absurd cc
 row_two n bs i rs k r j (Some q) h more w =
     let p = some_pair (r ∷ q.0) rs (j + q.1) k w in
     subst (λ (x : List world.Report). Row bs i (suc n) x k) p.0
@@ -77,7 +78,7 @@ row_two n bs i rs k r j (Some q) h more w =
 row_one : (n : ℕ) (bs : List ℕ) (i : ℕ) (rs : List world.Report) (k : ℕ) (o : Option (world.Report × ℕ)) → Bytes bs → reads_report bs i ≡ o →
     ((j : ℕ) (qs : List world.Report) (l : ℕ) → reads_row n bs (i + j) ≡ Some (qs, l) → Row bs (i + j) n qs l) →
     go_on o (λ j. reads_row n bs (i + j)) ≡ Some (rs, k) → Row bs i (suc n) rs k
-row_one n bs i rs k None b u more w = let z : ◌≡◌ {A = ℕ} 0 1 = cc in absurd (omega arith)
+row_one n bs i rs k None b u more w = absurd cc
 row_one n bs i rs k (Some p) b u more w =
     row_two n bs i rs k p.0 p.1 (reads_row n bs (i + p.1)) (report_only bs i p.0 p.1 b u) (more p.1) w
 
@@ -98,13 +99,14 @@ unfolding reports_bytes
 counted bs i rs k b l h =
     let n = h.2 in
     let t = h.0 in
-    let x : take 4 (drop i bs) ≡ four_of (four bs i) = cut bs i 4 (four_of (four bs i)) (length_four (four bs i)) (four_stands bs i b l) in
+    let o = four_laws.only bs i b l in
+    let x : take 4 (drop i bs) ≡ four_of (four bs i) = cut bs i 4 (four_of (four bs i)) (four_laws.sized (four bs i)) o.0 in
     let d : drop 4 (drop i bs) ≡ drop (i + 4) bs = drop-drop 4 i bs in
-    (rw (take-add 4 k (drop i bs), x, d, t, n), h.1, rw n (four_below bs i b))
+    (rw (take-add 4 k (drop i bs), x, d, t, n), h.1, rw n o.1)
 
 together : (bs : List ℕ) (i : ℕ) (rs : List world.Report) (k : ℕ) (o : Option (List world.Report × ℕ)) → Bytes bs → i + 4 ≤ length bs →
     reads_row (four bs i) bs (i + 4) ≡ o → after [] 4 o ≡ Some (rs, k) → Together bs i rs k
-together bs i rs k None b l e w = let z : ◌≡◌ {A = ℕ} 0 1 = cc in absurd (omega arith)
+together bs i rs k None b l e w = absurd cc
 together bs i rs k (Some q) b l e w =
     let p = some_pair q.0 rs (4 + q.1) k w in
     subst (λ (x : List world.Report). Together bs i x k) p.0
@@ -116,7 +118,7 @@ unfolding reads_reports
 reports_only bs i rs k b e =
     by_pick (leb (i + 4) (length bs)) _ None (Some (rs, k)) e
     (λ t w. together bs i rs k (reads_row (four bs i) bs (i + 4)) b (leb-true (i + 4) (length bs) t) refl w)
-    (λ t w. let z : ◌≡◌ {A = ℕ} 0 1 = cc in absurd (omega arith))
+    (λ t w. absurd cc)
 
 pub reports_only_that : ReportsOnly
 reports_only_that bs i rs k a e = reports_only bs i rs k (all_bytes bs a) e

@@ -38,7 +38,7 @@ row_step bs i s n m rs x k p e =
 
 pub none_of : (rs : List world.Report) (s : ℕ) (o : Option (List world.Report × ℕ)) → after rs s o ≡ None → o ≡ None
 none_of rs s None e = refl
-none_of rs s (Some q) e = let z : ◌≡◌ {A = ℕ} 0 1 = cc in absurd (omega arith)
+none_of rs s (Some q) e = absurd cc
 
 pub row_stop : (bs : List ℕ) (i s n m : ℕ) (rs : List world.Report) → m ≡ suc n → reads_report bs (i + s) ≡ None →
     after rs s (reads_row m bs (i + s)) ≡ None

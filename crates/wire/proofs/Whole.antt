@@ -7,7 +7,8 @@ use Rattle.std.proofs.lemmas.Bool.Decides.{nat_tests}
 use Rattle.std.specs.List.{AllByRecursion}
 use Rattle.venue.specs.World.{pick}
 use Rattle.wire.specs.Messages.{whole}
-use Rattle.wire.proofs.Places.{Bytes, Holds, held}
+use Rattle.wire.specs.Field.{Bytes, Holds}
+use Rattle.wire.proofs.Places.{held}
 
 -- the byte in front, and what stands behind it
 pub first : (bs : List ℕ) (i x : ℕ) (xs : List ℕ) → Holds bs i (x ∷ xs) → get_or bs i 0 ≡ x

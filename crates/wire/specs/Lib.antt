@@ -1,6 +1,9 @@
 pub mod Number
+pub mod Field
 pub mod Means
 pub mod Messages
+pub mod Kind
 pub mod Reports
 pub mod Writing
+pub mod Texts
 pub mod Laws

@@ -1,7 +1,7 @@
 -- What the code's values say: each as one of the plain market's own. Assumes nothing: these are definitions.
-use Rattle.std.specs.Prelude.{ℕ, zero, suc, ◌+◌, ◌-◌, ◌*◌, Bool, false, ◌&&◌, List, [], ◌∷◌, map, length, nat_le, slice_index_or}
+use Rattle.std.specs.Prelude.{ℕ, zero, suc, ◌+◌, ◌-◌, ◌*◌, ◌^◌, ◌<◌, Bool, false, ◌&&◌, List, [], ◌∷◌, map, ◌++◌, length, nat_le, slice_index_or}
 use Rattle.venue.specs.World as world
-use Rattle.wire.specs.Number.{four}
+use Rattle.wire.specs.Number.{four, four_of}
 use Rattle.wire.specs.declared.item.Item.{Item}
 use Rattle.wire.specs.declared.kinds.Kinds.{Kinds}
 use Rattle.wire.specs.declared.message.Message.{Message}
@@ -20,6 +20,18 @@ side_of Sell = world.sell
 
 abbrev pub item_of : Item → world.Item
 item_of i = record { price = i.price; band = i.band }
+
+-- an item's bytes: its price's, then its band's
+abbrev pub item_bytes : Item → List ℕ
+item_bytes i = four_of i.price ++ four_of i.band
+
+-- an item that has bytes
+abbrev pub item_fits : Item → Type 0
+item_fits i = (i.price < 2 ^ 32) × (i.band < 2 ^ 32)
+
+-- the item whose price lies at place i, with its band behind it
+abbrev pub item_in : List ℕ → ℕ → Item
+item_in bs i = record { price = four bs i; band = four bs (i + 4) }
 
 -- n numbers of four bytes each, eight bytes apart, from place i on
 unfoldable pub column : List ℕ → ℕ → ℕ → List ℕ

@@ -1,7 +1,7 @@
 -- What a writer leaves behind the bytes that there were. Assumes nothing: these are definitions.
 use Rattle.std.specs.Prelude.{◌≡◌, ℕ, Bool, true, false, List, ◌++◌, Ok, Err, Result}
-use Rattle.wire.specs.declared.append.Unwritten.{Unwritten}
-use Rattle.wire.specs.declared.append.Unwritten.TheVariants.{Memory}
+use Rattle.wire.specs.declared.unwritten.Unwritten.{Unwritten}
+use Rattle.wire.specs.declared.unwritten.Unwritten.TheVariants.{Memory}
 
 -- the bytes xs stand behind those before, or for want of memory nothing has changed
 abbrev pub Wrote : List ℕ → List ℕ → List ℕ → Result (Unit {0}) Unwritten → Type 0

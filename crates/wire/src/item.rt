@@ -1,23 +1,33 @@
 // An item's price, and by how much trades and the next end of day may differ from it.
-ghost use Rattle.std.specs.Prelude.{◌≡◌, ◌+◌, ◌≤◌, length};
-ghost use Rattle.wire.specs.Number.{four};
+ghost use Rattle.wire.specs.Means.{item_bytes, item_in};
 
-use crate::number::u32_at;
+use crate::encode::Encode;
+use crate::field::Field;
+use std::alloc::AllocError;
 
-#[derive(Clone, Copy)]
+#[derive(Clone, Copy, Debug, PartialEq, Eq)]
 pub struct Item {
     pub price: u32,
     pub band: u32,
 }
 
-// The item whose price lies at `at`, with its band behind it.
-pub fn item_at(bytes: &[u8], at: usize) -> Item
-    requires { at + 8 ≤ length bytes.now }
-    ensures price { result.price ≡ four bytes.now at }
-    ensures band { result.band ≡ four bytes.now (at + 4) }
-{
-    Item {
-        price: u32_at(bytes, at),
-        band: u32_at(bytes, at + 4),
+impl Encode for Item {
+    ghost bytes = { item_bytes };
+
+    fn write(&self, out: &mut Vec<u8>) -> Result<(), AllocError> {
+        (self.price, self.band).write(out)
+    }
+}
+
+impl Field for Item {
+    ghost size = { 8 };
+
+    ghost at = { item_in };
+
+    fn read(bytes: &[u8], i: usize) -> Item {
+        Item {
+            price: u32::read(bytes, i),
+            band: u32::read(bytes, i + 4),
+        }
     }
 }

@@ -1,7 +1,13 @@
 // What the market can be told.
+ghost use Rattle.std.specs.Prelude.{◌≡◌, ℕ, List};
+ghost use Rattle.venue.specs.World as world;
+ghost use Rattle.wire.specs.Kind.{kind_number};
+ghost use Rattle.wire.specs.Means.{message_of};
+
+use crate::kind::Kind;
 use crate::side::Side;
 
-#[derive(Clone, Copy)]
+#[derive(Clone, Copy, Debug, PartialEq, Eq)]
 pub enum Message {
     PayIn {
         account: u16,
@@ -22,9 +28,26 @@ pub enum Message {
         account: u16,
         number: u64,
     },
-    // `prices` is where its prices and bands start in the bytes that it was read from.
+    // `prices` is where its prices and bands start in the bytes that it was read from: a place and no slice, a form of docs/DECISIONS.md.
     EndDay {
         prices: usize,
     },
     BeginDay,
+}
+
+impl Message {
+    #[tactic(auto, using(std::proofs::lemmas::Bool::Decides::nat_tests), unfolding(venue::specs::World::kind))]
+    // Its kind, whatever bytes it was read from.
+    pub fn kind(&self) -> Kind
+        ensures { (bs : List ℕ) (n : ℕ) → kind_number result ≡ world.kind (message_of bs n self.now) }
+    {
+        match self {
+            Message::PayIn { .. } => Kind::PayIn,
+            Message::PayOut { .. } => Kind::PayOut,
+            Message::Place { .. } => Kind::Place,
+            Message::Cancel { .. } => Kind::Cancel,
+            Message::EndDay { .. } => Kind::EndDay,
+            Message::BeginDay => Kind::BeginDay,
+        }
+    }
 }

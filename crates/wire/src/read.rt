@@ -1,11 +1,13 @@
 // Reading a message from bytes.
+// Each reader takes the bytes and a place in them: the definitions speak of places in the whole file, and a refusal names its place there.
 ghost use Rattle.std.specs.Prelude.{◌≡◌, ℕ, ◌+◌, ◌<◌, ◌≤◌, length, Some, None, MatchResult, nat_le};
 ghost use Rattle.wire.specs.Messages.{AsWritten, Read, reads_place};
 ghost use Rattle.wire.specs.Means.{message_of};
 ghost use Rattle.wire.specs.Number.{two, eight};
 
+use crate::field::Field;
+use crate::kind::Kind;
 use crate::message::Message;
-use crate::number::{u16_at, u32_at, u64_at};
 use crate::refusal::Refusal;
 use crate::side::Side;
 
@@ -25,10 +27,11 @@ fn account_and_number(bytes: &[u8], at: usize) -> Result<(u16, u64), Refusal>
     if !reaches(bytes, at, 11) {
         return Err(Refusal::Message { at });
     }
-    Ok((u16_at(bytes, at + 1), u64_at(bytes, at + 3)))
+    Ok((u16::read(bytes, at + 1), u64::read(bytes, at + 3)))
 }
 
 // An order to place.
+#[tactic(auto, using(std::proofs::lemmas::Bool::Decides::nat_tests), unfolding(crate::specs::Messages::reads_place))]
 fn read_place(bytes: &[u8], at: usize) -> Result<(Message, usize), Refusal>
     ensures { MatchResult result
         (λ p. ((n : ℕ) → reads_place bytes.now at ≡ Some (message_of bytes.now n p.0, p.1))
@@ -38,15 +41,11 @@ fn read_place(bytes: &[u8], at: usize) -> Result<(Message, usize), Refusal>
     if !reaches(bytes, at, 14) {
         return Err(Refusal::Message { at });
     }
-    let side = match bytes[at + 5] {
-        0 => Side::Buy,
-        1 => Side::Sell,
-        _ => return Err(Refusal::Message { at }),
-    };
-    let account = u16_at(bytes, at + 1);
-    let item = u16_at(bytes, at + 3);
-    let price = u32_at(bytes, at + 6);
-    let quantity = u32_at(bytes, at + 10);
+    let side = Side::try_from(bytes[at + 5]).map_err(|_| Refusal::Message { at })?;
+    let account = u16::read(bytes, at + 1);
+    let item = u16::read(bytes, at + 3);
+    let price = u32::read(bytes, at + 6);
+    let quantity = u32::read(bytes, at + 10);
     Ok((
         Message::Place {
             account,
@@ -71,32 +70,32 @@ pub fn read_message(bytes: &[u8], at: usize, items: usize) -> Result<(Message, u
 }
 
 // The message by the kind that stands at `at`.
+#[tactic(auto, using(std::proofs::lemmas::Bool::Decides::nat_tests), unfolding(crate::specs::Messages::reads))]
 fn read_kind(bytes: &[u8], at: usize, items: usize) -> Result<(Message, usize), Refusal>
     requires { at < length bytes.now }
     ensures { Read bytes.now at items result }
 {
-    match bytes[at] {
-        1 => {
+    match Kind::try_from(bytes[at]).map_err(|_| Refusal::Message { at })? {
+        Kind::PayIn => {
             let (account, amount) = account_and_number(bytes, at)?;
             Ok((Message::PayIn { account, amount }, 11))
         }
-        2 => {
+        Kind::PayOut => {
             let (account, amount) = account_and_number(bytes, at)?;
             Ok((Message::PayOut { account, amount }, 11))
         }
-        3 => read_place(bytes, at),
-        4 => {
+        Kind::Place => read_place(bytes, at),
+        Kind::Cancel => {
             let (account, number) = account_and_number(bytes, at)?;
             Ok((Message::Cancel { account, number }, 11))
         }
-        5 => {
+        Kind::EndDay => {
             // So many items may be told of that their bytes are past counting.
             if items > (bytes.len() - at - 1) / 8 {
                 return Err(Refusal::Message { at });
             }
             Ok((Message::EndDay { prices: at + 1 }, 1 + 8 * items))
         }
-        6 => Ok((Message::BeginDay, 1)),
-        _ => Err(Refusal::Message { at }),
+        Kind::BeginDay => Ok((Message::BeginDay, 1)),
     }
 }

@@ -2,7 +2,7 @@
 ghost use Rattle.wire.specs.Means.{refusal_number, refusal_place};
 ghost use Rattle.std.specs.Prelude.{◌≡◌};
 
-#[derive(Clone, Copy)]
+#[derive(Clone, Copy, Debug, PartialEq, Eq)]
 pub enum Refusal {
     // The disc's length is no multiple of a block's, or too small for what block 0 says.
     Length { bytes: usize },
@@ -19,7 +19,7 @@ pub enum Refusal {
 }
 
 impl Refusal {
-    // The number that stands for it outside.
+    // The number that stands for it outside. A method: `number` and `place` are both integers, and `From` would name neither.
     pub fn number(&self) -> u8
         ensures { result ≡ refusal_number self.now }
     {
@@ -34,6 +34,7 @@ impl Refusal {
     }
 
     // The byte that it is about, or how many there are or should be; a block may begin past what a usize counts.
+    // By `as`, since u128 has no `From<usize>`.
     pub fn place(&self) -> u128
         ensures { result ≡ refusal_place self.now }
     {

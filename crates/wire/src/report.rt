@@ -1,8 +1,8 @@
 // What the market answers.
 
-#[derive(Clone, Copy)]
+#[derive(Clone, Copy, Debug, PartialEq, Eq)]
 pub enum Report {
-    // `number` is the new order's, or 0 where the message placed none.
+    // `number` is the new order's, or 0 where the message placed none. No Option: the report's bytes and its line have this number.
     Taken {
         number: u64,
     },

@@ -1,10 +1,14 @@
 // Reading a report from bytes.
+// Each reader takes the bytes and a place in them, as those of messages do.
+#![tactic(auto, using(std::proofs::lemmas::Bool::Decides::nat_tests), unfolding(crate::specs::Reports::reads_report))]
+
 ghost use Rattle.std.specs.Prelude.{◌≡◌, ◌+◌, ◌<◌, ◌≤◌, length, slice_index};
 ghost use Rattle.wire.specs.Reports.{AsReported, ReadReport};
 
-use crate::number::{u16_at, u32_at, u64_at};
+use crate::field::Field;
 use crate::read::reaches;
 use crate::report::Report;
+use crate::report_kind::ReportKind;
 
 fn read_taken(bytes: &[u8], at: usize) -> Option<(Report, usize)>
     requires { slice_index bytes.now at ≡ 0 }
@@ -13,12 +17,8 @@ fn read_taken(bytes: &[u8], at: usize) -> Option<(Report, usize)>
     if !reaches(bytes, at, 9) {
         return None;
     }
-    Some((
-        Report::Taken {
-            number: u64_at(bytes, at + 1),
-        },
-        9,
-    ))
+    let number = u64::read(bytes, at + 1);
+    Some((Report::Taken { number }, 9))
 }
 
 fn read_trade(bytes: &[u8], at: usize) -> Option<(Report, usize)>
@@ -28,11 +28,11 @@ fn read_trade(bytes: &[u8], at: usize) -> Option<(Report, usize)>
     if !reaches(bytes, at, 27) {
         return None;
     }
-    let newer = u64_at(bytes, at + 1);
-    let older = u64_at(bytes, at + 9);
-    let item = u16_at(bytes, at + 17);
-    let price = u32_at(bytes, at + 19);
-    let quantity = u32_at(bytes, at + 23);
+    let newer = u64::read(bytes, at + 1);
+    let older = u64::read(bytes, at + 9);
+    let item = u16::read(bytes, at + 17);
+    let price = u32::read(bytes, at + 19);
+    let quantity = u32::read(bytes, at + 23);
     Some((
         Report::Trade {
             newer,
@@ -52,10 +52,10 @@ fn read_torn(bytes: &[u8], at: usize) -> Option<(Report, usize)>
     if !reaches(bytes, at, 15) {
         return None;
     }
-    let account = u16_at(bytes, at + 1);
-    let other = u16_at(bytes, at + 3);
-    let item = u16_at(bytes, at + 5);
-    let held = u64_at(bytes, at + 7).cast_signed();
+    let account = u16::read(bytes, at + 1);
+    let other = u16::read(bytes, at + 3);
+    let item = u16::read(bytes, at + 5);
+    let held = i64::read(bytes, at + 7);
     Some((
         Report::Torn {
             account,
@@ -83,11 +83,10 @@ fn read_kind(bytes: &[u8], at: usize) -> Option<(Report, usize)>
     requires { at < length bytes.now }
     ensures { ReadReport bytes.now at result }
 {
-    match bytes[at] {
-        0 => read_taken(bytes, at),
-        1 => Some((Report::Refused, 1)),
-        2 => read_trade(bytes, at),
-        3 => read_torn(bytes, at),
-        _ => None,
+    match ReportKind::try_from(bytes[at]).ok()? {
+        ReportKind::Taken => read_taken(bytes, at),
+        ReportKind::Refused => Some((Report::Refused, 1)),
+        ReportKind::Trade => read_trade(bytes, at),
+        ReportKind::Torn => read_torn(bytes, at),
     }
 }

@@ -5,7 +5,7 @@ ghost use Rattle.disc.specs.Means.{header_of};
 ghost use Rattle.wire.specs.Means.{item_of};
 
 use super::Header;
-use crate::layout::least_journal;
+use crate::layout::Sizes;
 use wire::Item;
 
 impl Header {
@@ -14,13 +14,13 @@ impl Header {
         ensures value { result ≡ length (header_of self.now).items }
         ensures bounds { (1 ≤ result) × (result ≤ 256) }
     {
-        self.count
+        self.items.len()
     }
 
     pub fn items(&self) -> &[Item]
         ensures { map item_of result.now ≡ (header_of self.now).items }
     {
-        &self.items[0..self.count]
+        self.items.as_slice()
     }
 
     pub fn accounts(&self) -> usize
@@ -51,6 +51,19 @@ impl Header {
         ensures value { result ≡ least_journal (length (header_of self.now).items) }
         ensures bounds { result ≤ 97 }
     {
-        least_journal(self.count())
+        self.sizes().least_journal()
+    }
+
+    // The numbers that a disc's length depends on.
+    pub(crate) fn sizes(&self) -> Sizes
+        ensures items { result.items ≡ length (header_of self.now).items }
+        ensures accounts { result.accounts ≡ (header_of self.now).accounts }
+        ensures orders { result.orders ≡ (header_of self.now).orders }
+    {
+        Sizes {
+            items: self.count(),
+            accounts: self.accounts(),
+            orders: self.orders(),
+        }
     }
 }

@@ -5,8 +5,7 @@ ghost use Rattle.wire.specs.Means.{message_of, report_of};
 ghost use Rattle.std.specs.Prelude.{◌≡◌, map, length};
 
 use super::PlainMarket;
-use crate::obeying::obey;
-use wire::{Message, Report, kind};
+use wire::{Message, Report};
 
 impl PlainMarket {
     // A message of a kind that there isn't yet is refused. `bytes` are those that the message was read from.
@@ -15,17 +14,11 @@ impl PlainMarket {
         ensures reports { plain_reports self.new ≡ (says (plain_limits self.old) (plain_world self.old) (message_of bytes.now (length (plain_world self.old).items) message)).1 }
         ensures limits { plain_limits self.new ≡ plain_limits self.old }
     {
-        self.reports.clear();
-        if self.kinds.has(kind(&message)) {
-            obey(
-                &mut self.market,
-                self.limits,
-                message,
-                bytes,
-                &mut self.reports,
-            );
+        self.told.reports.clear();
+        if self.kinds.contains(message.kind()) {
+            self.told.obey(message, bytes);
         } else {
-            self.reports.push_reserved(Report::Refused);
+            self.told.reports.push_reserved(Report::Refused);
         }
     }
 
@@ -33,6 +26,6 @@ impl PlainMarket {
     pub fn reports(&self) -> &[Report]
         ensures { map report_of result.now ≡ plain_reports self.now }
     {
-        self.reports.as_slice()
+        self.told.reports.as_slice()
     }
 }

@@ -1,5 +1,5 @@
 // A new plain market.
-ghost use Rattle.std.specs.Prelude.{◌≡◌, suc, ◌*◌, ◌≤◌, max, [], map, length, replicate, pos, IfOk, vec_capacity};
+ghost use Rattle.std.specs.Prelude.{◌≡◌, suc, ◌*◌, max, [], map, length, replicate, pos, IfOk};
 ghost use Rattle.disc.specs.Means.{header_of};
 ghost use Rattle.disc.specs.Numbers as disc;
 ghost use Rattle.reference.specs.Means.{account_of, held_of, world_of};
@@ -8,7 +8,7 @@ ghost use Rattle.wire.specs.Means.{kinds_of};
 
 use super::PlainMarket;
 use crate::limits::Limits;
-use crate::market::{Account, Market, Position};
+use crate::market::{Account, Market, Position, Told};
 use disc::Header;
 use std::alloc::{AllocError, Global};
 use wire::Kinds;
@@ -17,11 +17,7 @@ use wire::Kinds;
 fn no_positions(heap: Global, items: usize) -> Result<Vec<Position>, AllocError>
     ensures { IfOk result (λ v. map held_of v.items ≡ replicate items (pos 0)) }
 {
-    let mut positions = Vec::with_capacity(heap, items)?;
-    for i in 0..items {
-        positions.push(Position { held: 0 })?;
-    }
-    Ok(positions)
+    Ok(vec![in heap; Position { held: 0 }; items]?)
 }
 
 // So many accounts with nothing.
@@ -29,7 +25,7 @@ fn new_accounts(heap: Global, accounts: usize, items: usize) -> Result<Vec<Accou
     ensures { IfOk result (λ v. map account_of v.items ≡ replicate accounts (record { cash = pos 0; holds = replicate items (pos 0) })) }
 {
     let mut all = Vec::with_capacity(heap, accounts)?;
-    for a in 0..accounts {
+    for _ in 0..accounts {
         let positions = no_positions(heap, items)?;
         all.push(Account { cash: 0, positions })?;
     }
@@ -38,12 +34,17 @@ fn new_accounts(heap: Global, accounts: usize, items: usize) -> Result<Vec<Accou
 
 // The first morning: the items with their first prices, and accounts with nothing.
 fn first_market(heap: Global, header: &Header) -> Result<Market, AllocError>
-    ensures { IfOk result (λ m. (world_of m ≡ disc.first_of (header_of header.now)) × ((header_of header.now).orders ≤ vec_capacity m.orders)) }
+    ensures { IfOk result (λ m. (world_of m ≡ disc.first_of (header_of header.now)) × (m.limits.orders ≡ (header_of header.now).orders) × (m.limits.money ≡ (header_of header.now).money)) }
 {
     let items = Vec::from_slice(heap, header.items())?;
     let accounts = new_accounts(heap, header.accounts(), header.count())?;
     let orders = Vec::with_capacity(heap, header.orders())?;
+    let limits = Limits {
+        orders: header.orders(),
+        money: header.money(),
+    };
     Ok(Market {
+        limits,
         items,
         accounts,
         orders,
@@ -68,15 +69,9 @@ impl PlainMarket {
     {
         let market = first_market(heap, header)?;
         let reports = Vec::with_capacity(heap, most_reports(header))?;
-        let limits = Limits {
-            orders: header.orders(),
-            money: header.money(),
-        };
         Ok(PlainMarket {
-            limits,
             kinds,
-            market,
-            reports,
+            told: Told { market, reports },
         })
     }
 }

@@ -5,10 +5,9 @@ use Rattle.disc.specs.Means.{header_of}
 use Rattle.disc.proofs.Fresh.{comes_back}
 use Rattle.disc.proofs.new_disc.make.Goals as goal
 
-pub returns-in-Ok : goal.returns-in-Ok
-returns-in-Ok c =
-    let least = c.least_journal.ensures.0 ∙ ap least_journal c.count.ensures.value in
+pub returns : goal.returns
+returns c =
     let enough : least_journal (length (header_of c.args.header.now).items) ≤ c.args.journal = omega arith in
     let back = comes_back (header_of c.args.header.now) c.args.journal c.args.header.now.fits enough in
-    let same = c.in-Ok.ensures in
+    let same = c.in_ok-disc_bytes.ensures in
     (same, ap header_refusal same ∙ back.0, ap numbers_on same ∙ back.1)

@@ -19,8 +19,8 @@ step c =
     let bs = c.args.bytes.now in
     let k = c.loop-k.k in
     let q : (c.args.at + 8 * k) + 4 ≡ (c.args.at + 4) + 8 * k = omega arith in
-    let p : c.item_at.result.price ≡ four bs (c.args.at + 8 * k) = c.item_at.ensures.price in
-    let b : c.item_at.result.band ≡ four bs ((c.args.at + 4) + 8 * k) = c.item_at.ensures.band ∙ ap (λ i. four bs i) q in
+    let p : c.read.result.price ≡ four bs (c.args.at + 8 * k) = ap (λ i. i.price) c.read.ensures in
+    let b : c.read.result.band ≡ four bs ((c.args.at + 4) + 8 * k) = ap (λ i. i.band) c.read.ensures ∙ ap (λ i. four bs i) q in
     let f : c.suits.result ≡ one_fits (item_of (get_or c.args.items.now k blank_item)) (four bs (c.args.at + 8 * k))
     (four bs ((c.args.at + 4) + 8 * k)) =
     rw (← p, ← b) c.suits.ensures in

@@ -8,7 +8,8 @@ use Rattle.reference.proofs.evening.gain.Given as goal
 
 abbrev pub invariant-loop-k : goal.invariant-loop-k
 invariant-loop-k l =
-    (l.sum +ℤ world.gain l.k (map item_of (drop l.k l.items)) (rest l.bytes l.at (length l.items) l.k)
+    (goal.iterator-loop-k).can_next l.k-iterator × (goal.iterator-loop-k).is_finite l.k-iterator
+    × (l.sum +ℤ world.gain (length l.yielded) (map item_of (drop (length l.yielded) l.items)) (rest l.bytes l.at (length l.items) (length l.yielded))
     (account_of l.account) ≡
     world.gain 0 (map item_of l.items) (column l.bytes l.at (length l.items)) (account_of l.account))
-    × Within (39614081257132168796771975168 * l.k) l.sum
+    × Within (39614081257132168796771975168 * length l.yielded) l.sum

@@ -6,9 +6,9 @@ use Rattle.reference.proofs.Refill.{refilled}
 use Rattle.reference.proofs.evening.settle.Given as goal
 
 -- those before a have been paid, the others not yet
-abbrev pub invariant-loop-a : goal.invariant-loop-a
-invariant-loop-a l =
-    (map account_of (vec_items l.accounts) ≡
-    refilled (paid (map item_of l.items) (column l.bytes l.at (length l.items)) (map account_of (vec_items l.initial.accounts)))
-    (map account_of (vec_items l.initial.accounts)) l.a)
-    × (vec_len l.accounts ≡ vec_len l.initial.accounts)
+abbrev pub invariant-loop-account : goal.invariant-loop-account
+invariant-loop-account l =
+    (map account_of l.account-items ≡
+    refilled (paid (map item_of l.items) (column l.bytes l.at (length l.items)) (map account_of (vec_items l.fn.accounts)))
+    (map account_of (vec_items l.fn.accounts)) l.account-index)
+    × (length l.account-items ≡ vec_len l.fn.accounts)

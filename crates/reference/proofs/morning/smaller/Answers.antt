@@ -15,28 +15,19 @@ size c =
     let b : c.unsigned_abs-2.result ≡ abs c.args.g = c.unsigned_abs-2.ensures.value ∙ ap nat_abs (to_z-of_z w64 c.args.g c.ranges.g) ∙
     sym (abs_is c.args.g) in
     let l : c.traded-size.result ≤ c.unsigned_abs.result = grind (arith, nat_tests) in
-    let m : c.unsigned_abs.result ≤ 2147483648 = omega (arith, ints, c.unsigned_abs.ensures.value, c.requires.small.0.0, c.requires.small.0.1) in
+    let m : c.unsigned_abs.result ≤ 2147483648 = omega (arith, ints, c.unsigned_abs.ensures.value, c.requires.h.0, c.requires.h.1) in
     (rw (← a, ← b) c.traded-size.ensures, omega arith)
 
-pub overflow_cast-size : goal.overflow_cast-size
-overflow_cast-size c = let s = (size c).1 in omega (arith, ints)
-
-pub returns-then-h-lt0 : goal.returns-then-h-lt0
-returns-then-h-lt0 c =
-    let s = size (goal.at.returns-then-h-lt0 c).After-traded-size in
+pub returns-then-h-lt0-clause-value : goal.returns-then-h-lt0-clause-value
+returns-then-h-lt0-clause-value c =
+    let s = size (goal.at.returns-then-h-lt0-clause-value c).After-traded-size in
     let l = s.1 in
     let e = rw (to_z-of_z w64 c.args.h c.ranges.h) at c.if-h-lt0.true in
-    record {
-      value = rw (signed_below c.args.h (lesser (abs c.args.h) (abs c.args.g)) e, ← s.0) (omega (arith, ints));
-      bound = (omega (arith, ints), omega (arith, ints));
-    }
+    rw (signed_below c.args.h (lesser (abs c.args.h) (abs c.args.g)) e, ← s.0) (omega (arith, ints))
 
-pub returns-else-h-lt0 : goal.returns-else-h-lt0
-returns-else-h-lt0 c =
-    let s = size (goal.at.returns-else-h-lt0 c).After-traded-size in
+pub returns-else-h-lt0-clause-value : goal.returns-else-h-lt0-clause-value
+returns-else-h-lt0-clause-value c =
+    let s = size (goal.at.returns-else-h-lt0-clause-value c).After-traded-size in
     let l = s.1 in
     let e = rw (to_z-of_z w64 c.args.h c.ranges.h) at c.if-h-lt0.false in
-    record {
-      value = rw (signed_above c.args.h (lesser (abs c.args.h) (abs c.args.g)) e, ← s.0) (omega (arith, ints));
-      bound = (omega (arith, ints), omega (arith, ints));
-    }
+    rw (signed_above c.args.h (lesser (abs c.args.h) (abs c.args.g)) e, ← s.0) (omega (arith, ints))

@@ -1,4 +1,4 @@
-use Rattle.std.proofs.Common.{◌≡◌, ◌*◌, map, drop, ◌+ℤ◌}
+use Rattle.std.proofs.Common.{◌≡◌, ◌*◌, map, length, drop, ◌+ℤ◌}
 use Rattle.venue.specs.World.{need_from}
 use Rattle.wire.specs.Means.{item_of}
 use Rattle.reference.specs.Means.{order_of, account_of}
@@ -7,6 +7,7 @@ use Rattle.reference.proofs.needs.need.Given as goal
 
 abbrev pub invariant-loop-k : goal.invariant-loop-k
 invariant-loop-k l =
-    (l.sum +ℤ need_from l.account l.k (map item_of (drop l.k l.items)) (account_of l.of) (map order_of l.orders) ≡
+    (goal.iterator-loop-k).can_next l.k-iterator × (goal.iterator-loop-k).is_finite l.k-iterator
+    × (l.sum +ℤ need_from l.account (length l.yielded) (map item_of (drop (length l.yielded) l.items)) (account_of l.of) (map order_of l.orders) ≡
     need_from l.account 0 (map item_of l.items) (account_of l.of) (map order_of l.orders))
-    × Within (633825300114114700748351602688 * l.k) l.sum
+    × Within (633825300114114700748351602688 * length l.yielded) l.sum

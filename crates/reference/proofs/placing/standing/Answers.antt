@@ -5,11 +5,6 @@ use Rattle.venue.specs.World as world
 use Rattle.reference.proofs.Steps.{standing_more}
 use Rattle.reference.proofs.placing.standing.Goals as goal
 
-pub overflow_add-sum : goal.overflow_add-sum
-overflow_add-sum c =
-    let e = standing_more c.args.account c.args.item c.args.orders.now c.loop-o.o-index c.loop-o-test.true in
-    grind (arith, nat_tests)
-
 pub loop-o-preserved : goal.loop-o-preserved
 loop-o-preserved c =
     let e = standing_more c.args.account c.args.item c.args.orders.now c.loop-o.o-index c.loop-o-test.true in

@@ -6,12 +6,12 @@ use Rattle.wire.specs.Means.{message_of}
 use Rattle.wire.specs.Messages.{AsWritten, Read, reads}
 use Rattle.wire.specs.declared.message.Message.{Message}
 use Rattle.wire.specs.declared.refusal.Refusal.{Refusal}
-use Rattle.wire.proofs.Places.{Bytes}
-use Rattle.wire.proofs.Only.{read_only}
+use Rattle.wire.specs.Field.{Bytes}
+use Rattle.wire.proofs.Only.{read_message_only}
 use Rattle.wire.proofs.read.read_message.Goals as goal
 
 as_written : (bs : List ℕ) (i n : ℕ) (r : Result (Message × ℕ) Refusal) → Bytes bs → Read bs i n r → AsWritten bs i n r
-as_written bs i n (Ok p) b h = read_only bs i n (message_of bs n p.0) p.1 b h.0
+as_written bs i n (Ok p) b h = read_message_only bs i n (message_of bs n p.0) p.1 b h.0
 as_written bs i n (Err e) b h = tt
 
 pub returns-then-at-bytes : goal.returns-then-at-bytes

@@ -5,7 +5,7 @@ use Rattle.std.proofs.lemmas.Bool.Decides.{nat_tests}
 use Rattle.wire.specs.Means.{report_of}
 use Rattle.wire.specs.Reports.{AsReported, ReadReport, reads_report}
 use Rattle.wire.specs.declared.report.Report.{Report}
-use Rattle.wire.proofs.Places.{Bytes}
+use Rattle.wire.specs.Field.{Bytes}
 use Rattle.wire.proofs.ReportOnly.{report_only}
 use Rattle.wire.proofs.report_read.read_report.Goals as goal
 

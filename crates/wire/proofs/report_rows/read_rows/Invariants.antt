@@ -1,15 +1,13 @@
-use Rattle.std.proofs.Common.{◌≡◌, ◌+◌, ◌≤◌, map, length, take, vec_items}
+use Rattle.std.proofs.Common.{◌≡◌, ◌+◌, ◌-◌, ◌≤◌, map, length, take}
 use Rattle.wire.specs.Means.{report_of}
 use Rattle.wire.specs.Reports.{after, reads_reports, reads_row}
 use Rattle.wire.proofs.report_rows.read_rows.Given as goal
 
 -- what is read so far, with what is left to read, is the whole
-abbrev pub invariant-loop-left : goal.invariant-loop-left
-invariant-loop-left l =
-    (after (map report_of (vec_items l.into)) l.size (reads_row l.left l.bytes (l.at + l.size)) ≡
-    after (map report_of (vec_items l.initial.into)) 0 (reads_reports l.bytes l.at)) ×
-    (l.at + l.size ≤ length l.bytes) ×
-    (take (length (vec_items l.initial.into)) (vec_items l.into) ≡ vec_items l.initial.into)
-
-abbrev pub decreases-loop-left : goal.decreases-loop-left
-decreases-loop-left l = l.left
+abbrev pub invariant-loop : goal.invariant-loop
+invariant-loop l = record {
+  whole : after (map report_of l.into.items) l.size (reads_row (l.end - l.counter) l.bytes (l.at + l.size)) ≡
+      after (map report_of l.initial.into.items) 0 (reads_reports l.bytes l.at);
+  inside : l.at + l.size ≤ length l.bytes;
+  kept : take (length l.initial.into.items) l.into.items ≡ l.initial.into.items;
+}

@@ -1,12 +1,18 @@
-use Rattle.std.proofs.Common.{refl, arith, length-set}
+use Rattle.std.proofs.Common.{arith}
+use Rattle.std.proofs.lemmas.Grind.{common_steps}
 use Rattle.disc.specs.Block0.{items_from}
-use Rattle.disc.proofs.Steps.{items_more}
+use Rattle.disc.specs.Few.{few_items}
+use Rattle.disc.proofs.Steps.{items_more, length_more}
 use Rattle.disc.proofs.header.reading.items_of.Goals as goal
 
 pub loop-k-init : goal.loop-k-init
 unfolding items_from
-loop-k-init c = (refl, refl)
+loop-k-init c = rw c.new-items.ensures
+
+pub unwrap-requires : goal.unwrap-requires
+unwrap-requires c =
+    let long = length_more c.args.bytes.now 24 c.loop-k.k (few_items c.loop-k.items) c.loop-k.invariant in
+    c.push.ensures.room.1 (omega arith)
 
 pub loop-k-preserved : goal.loop-k-preserved
-loop-k-preserved c =
-    (items_more c.args.bytes.now 24 c.loop-k.k _ _ c.loop-k.items (omega arith) c.u32_at.ensures c.u32_at-in-loop-k.ensures c.loop-k.invariant.0, simp length-set c.loop-k.invariant.1)
+loop-k-preserved c = grind (arith, common_steps, items_more)

@@ -1,10 +1,10 @@
-use Rattle.std.proofs.Common.{◌≡◌, suc, ◌*◌, ◌≤◌, max, map, length, vec_capacity, sym, ap, ◌∙◌, subst, arith}
+use Rattle.std.proofs.Common.{◌≡◌, length, sym, ap, ◌∙◌, subst}
 use Rattle.disc.specs.Means.{header_of}
 use Rattle.disc.specs.Numbers as disc
 use Rattle.std.proofs.lemmas.Bool.{and_parts}
 use Rattle.venue.proofs.Sounds.{sound_first}
 use Rattle.venue.specs.Sound.{Sound}
-use Rattle.wire.specs.Means.{kinds_of, report_of}
+use Rattle.wire.specs.Means.{kinds_of}
 use Rattle.reference.specs.Means.{limits_of, world_of}
 use Rattle.reference.proofs.Firsts.{first_many, items_sound}
 use Rattle.reference.proofs.plain_market.PlainMarket.new.Goals as goal
@@ -21,22 +21,9 @@ invariant_of-result c =
     e ∙ many.0 in
     let i : length (world_of c.in_ok-market.market).items ≡ length (header_of c.args.header.now).items = ap (λ v. length v.items)
     e ∙ many.1 in
-    let z = limits_of (record { orders = c.orders.result; money = c.money.result }) (kinds_of c.args.kinds) in
-    let r = c.in_ok-reports.ensures.capacity in
-    let q : suc (max c.orders.result ((header_of c.args.header.now).accounts * length (header_of c.args.header.now).items)) ≤ vec_capacity
-    c.in_ok-reports.reports =
-    rw (c.orders.ensures.value, ← c.most_reports.ensures) r in
+    let k = kinds_of c.args.kinds in
     record {
-      sound = subst (Sound z) (sym e) (sound_first z n.items n.accounts (items_sound n.items p.1));
-      sized = rw (a, i, c.orders.ensures.value, c.money.ensures.value) p.0;
-      places = omega (arith, m.1, c.orders.ensures.value);
-      room = rw (a, i) q;
+      sound = subst (Sound (limits_of c.in_ok-market.market.limits k)) (sym e) (sound_first _ n.items n.accounts (items_sound n.items p.1));
+      sized = rw (a, i, m.1, m.2) p.0;
+      room = rw (a, i, m.1, ← c.most_reports.ensures) c.in_ok-reports.ensures.capacity;
     }
-
-pub returns : goal.returns
-returns c = (
-  c.in_ok-market.ensures.0,
-  rw (c.orders.ensures.value, c.money.ensures.value),
-  ap (map report_of)
-      c.in_ok-reports.ensures.items,
-)

@@ -1,4 +1,4 @@
-use Rattle.std.proofs.Common.{◌≡◌, map, length, replicate, pos, vec_items, ap, ◌∙◌, arith}
+use Rattle.std.proofs.Common.{◌≡◌, map, length, replicate, pos, vec_items, ap, ◌∙◌}
 use Rattle.disc.specs.Means.{header_of}
 use Rattle.venue.specs.World.{first}
 use Rattle.wire.specs.Means.{item_of}
@@ -14,4 +14,4 @@ returns c =
     let a : map account_of (vec_items c.in_ok-accounts.accounts) ≡ replicate n.accounts
     (record { cash = pos 0; holds = replicate (length n.items) (pos 0) }) =
     c.in_ok-accounts.ensures ∙ rw (c.accounts.ensures.value, c.count.ensures.value) in
-    (rw (i, a, c.in_ok-orders.ensures.items), omega (arith, c.in_ok-orders.ensures.capacity, c.orders.ensures.value))
+    (rw (i, a, c.in_ok-orders.ensures.items), c.orders-2.ensures.value, c.money.ensures.value)

@@ -2,5 +2,5 @@ use Rattle.std.proofs.Common.{◌≡◌, map, replicate, pos, vec_items}
 use Rattle.reference.specs.Means.{account_of}
 use Rattle.reference.proofs.plain_market.making.new_accounts.Given as goal
 
-abbrev pub invariant-loop-a : goal.invariant-loop-a
-invariant-loop-a l = map account_of (vec_items l.all) ≡ replicate l.a (record { cash = pos 0; holds = replicate l.items (pos 0) })
+abbrev pub invariant-loop : goal.invariant-loop
+invariant-loop l = map account_of (vec_items l.all) ≡ replicate l.counter (record { cash = pos 0; holds = replicate l.items (pos 0) })
