@@ -1,9 +1,9 @@
 // The numbers that a market begins with, all in range.
-ghost use Rattle.std.specs.Prelude.{◌≡◌, true, ⊤, Some, codes};
+ghost use Rattle.std.specs.Prelude.{◌≡◌, true, Some, codes};
 ghost use Rattle.disc.specs.Few.{few_items};
 ghost use Rattle.disc.specs.Numbers.{in_range, numbers_of};
 
-use crate::few::{Few, NoRoom};
+use crate::few::Few;
 use std::error::Error;
 use std::fmt;
 use wire::Item;
@@ -39,12 +39,3 @@ impl fmt::Display for OutOfRange {
 }
 
 impl Error for OutOfRange {}
-
-// More items than there is room for are out of range.
-impl From<NoRoom> for OutOfRange {
-    ghost from_gives = { λ _ _. ⊤ };
-
-    fn from(_e: NoRoom) -> OutOfRange {
-        OutOfRange
-    }
-}

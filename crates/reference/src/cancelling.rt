@@ -21,7 +21,7 @@ impl Market {
     pub(crate) fn cancel(&mut self, account: u16, number: u64) -> Result<(), Refused>
         ensures { (z : world.Limits) → Obeys z (world.cancel account number) self.old self.new (is_ok result) }
     {
-        // By `let .. else`, a form of docs/DECISIONS.md.
+        // By `let .. else` (docs/DECISIONS.md, Forms).
         let Some(at) = place_of(&self.orders, account, number) else {
             return Err(Refused);
         };

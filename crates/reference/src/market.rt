@@ -14,7 +14,7 @@ pub struct Order {
     pub left: u32,
 }
 
-// What an account has of one item; below 0 it is owed. A struct for each item, beside the items: a form of docs/DECISIONS.md.
+// What an account has of one item; below 0 it is owed. A struct for each item, in a row beside the items (docs/DECISIONS.md, Forms).
 #[derive(Clone, Copy, Debug, PartialEq, Eq)]
 pub struct Position {
     pub held: i64,

@@ -16,6 +16,7 @@ impl Order {
     }
 
     // Whether the order could trade with the other.
+    #[tactic(auto, using(std::proofs::lemmas::Bool::Decides::nat_tests), unfolding(venue::specs::World::meets, venue::specs::World::other_side, venue::specs::World::crosses))]
     fn meets(&self, r: &Order) -> bool
         ensures { result ≡ world.meets (order_of self.now) (order_of r.now) }
     {
@@ -30,6 +31,7 @@ impl Order {
     }
 
     // Whether price p is better for the order than price q.
+    #[tactic(auto, using(std::proofs::lemmas::Bool::Decides::nat_tests), unfolding(venue::specs::World::better))]
     fn prefers(&self, p: u32, q: u32) -> bool
         ensures { result ≡ world.better (order_of self.now) p q }
     {

@@ -20,6 +20,7 @@ struct Losses {
 // and taken apart at once. Each asks for fewer than 2^32 orders of the one row that it hands on, so that its own sum fits.
 
 // What the order could lose if it is the account's and in the item; else nothing.
+#[tactic(auto, using(std::proofs::lemmas::Bool::Decides::nat_tests), unfolding(crate::specs::Parts::buy_loss, crate::specs::Parts::sell_loss))]
 fn loss_of(o: &Order, account: u16, item: u16, at: Item) -> Losses
     ensures buys { result.buys ≡ buy_loss account item (item_of at) (order_of o.now) }
     ensures sells { result.sells ≡ sell_loss account item (item_of at) (order_of o.now) }

@@ -3,7 +3,8 @@ ghost use Rattle.std.specs.Prelude.{◌≡◌, ◌<◌, ◌≤◌, ◌∷◌, le
 ghost use Rattle.std.specs.List.{prefix_len};
 ghost use Rattle.text.specs.Words.{after_word, before_comment, blank, first_word, letter, lines, other_than};
 
-// Each is one chain: a function over a test would have three calls in the place of three chains. Each count is a function of its own: the check does not find what a chain counts where the function goes on with it (tried).
+// Three counts, each one chain of the library. They are functions of their own, since the check does not find what a chain counts where its
+// function goes on with the count (tried).
 
 // How many bytes stand before the first that is `stop`.
 fn until(bytes: &[u8], stop: u8) -> usize

@@ -28,7 +28,7 @@ pub enum Message {
         account: u16,
         number: u64,
     },
-    // `prices` is where its prices and bands start in the bytes that it was read from: a place and no slice, a form of docs/DECISIONS.md.
+    // `prices` is where its prices and bands start in the bytes that it was read from: a place and no slice (docs/DECISIONS.md, Forms).
     EndDay {
         prices: usize,
     },
@@ -36,8 +36,8 @@ pub enum Message {
 }
 
 impl Message {
-    #[tactic(auto, using(std::proofs::lemmas::Bool::Decides::nat_tests), unfolding(venue::specs::World::kind))]
     // Its kind, whatever bytes it was read from.
+    #[tactic(auto, using(std::proofs::lemmas::Bool::Decides::nat_tests), unfolding(venue::specs::World::kind))]
     pub fn kind(&self) -> Kind
         ensures { (bs : List ℕ) (n : ℕ) → kind_number result ≡ world.kind (message_of bs n self.now) }
     {

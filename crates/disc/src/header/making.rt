@@ -24,7 +24,7 @@ impl Header {
             return Err(OutOfRange);
         }
         Ok(Header {
-            items: Few::from_slice(BLANK, items)?,
+            items: Few::from_slice(BLANK, items).unwrap(),
             accounts,
             orders,
             money,

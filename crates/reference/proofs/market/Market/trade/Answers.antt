@@ -47,10 +47,7 @@ gets-requires-2-clause-item c =
 
 pub gets-requires-2-clause-roomy : goal.gets-requires-2-clause-roomy
 gets-requires-2-clause-roomy c =
-    let h = half (goal.at.gets-requires-2-clause-roomy c).After-gets in
-    let a = h.accounts in
-    let i = ap length h.items in
-    h.roomy
+    (half (goal.at.gets-requires-2-clause-roomy c).After-gets).roomy
 
 pub returns : goal.returns
 unfolding with_orders

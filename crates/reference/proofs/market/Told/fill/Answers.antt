@@ -72,21 +72,15 @@ part c = c.min-x.ensures ∙ lesser_min _ _
 
 pub trade-requires-clause-older : goal.trade-requires-clause-older
 trade-requires-clause-older c =
-    let m = met (goal.at.trade-requires-clause-older c).After-index in
-    let r = m.is_ready in
-    r.other
+    (met (goal.at.trade-requires-clause-older c).After-index).is_ready.other
 
 pub trade-requires-clause-price : goal.trade-requires-clause-price
 trade-requires-clause-price c =
-    let m = met (goal.at.trade-requires-clause-price c).After-index in
-    let r = m.is_ready in
-    r.price
+    (met (goal.at.trade-requires-clause-price c).After-index).is_ready.price
 
 pub trade-requires-clause-roomy : goal.trade-requires-clause-roomy
 trade-requires-clause-roomy c =
-    let m = met (goal.at.trade-requires-clause-roomy c).After-index in
-    let r = m.is_ready in
-    r.roomy
+    (met (goal.at.trade-requires-clause-roomy c).After-index).is_ready.roomy
 
 -- the turn: what was reported and what is to come, before and after
 record Turned (c : goal.After-trade) : Type 0 where

@@ -29,9 +29,7 @@ end_day-taken-requires c =
     }
 
 pub place-requires-clause-fit : goal.place-requires-clause-fit
-place-requires-clause-fit c =
-    let s = c.requires.standing in
-    fit (goal.at.place-requires-clause-fit c).Start
+place-requires-clause-fit c = fit (goal.at.place-requires-clause-fit c).Start
 
 pub begin_day-requires-clause-morning : goal.begin_day-requires-clause-morning
 begin_day-requires-clause-morning c =
@@ -44,7 +42,6 @@ pub begin_day-requires-clause-room : goal.begin_day-requires-clause-room
 begin_day-requires-clause-room c =
     let s = c.requires.standing in
     let z = limits_of c.args.self.now.market.limits s.0 in
-    let w = world_of c.args.self.now.market in
     (z, rw c.in-BeginDay.is at (c.requires.room s.0))
 
 pub returns-in-Place : goal.returns-in-Place

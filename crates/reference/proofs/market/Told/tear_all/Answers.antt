@@ -6,10 +6,7 @@ use Rattle.reference.proofs.market.Told.tear_all.Goals as goal
 
 pub tear_account-requires-clause-room : goal.tear_account-requires-clause-room
 tear_account-requires-clause-room c =
-    let o = c.loop-a.invariant.onward in
     let l : c.loop-a.a < length (world_of c.args.self.now.market).accounts = simp length-map (search rules) in
-    let a = o.accounts in
-    let i = o.items in
     turn_room all_walk (length (world_of c.args.self.now.market).accounts) c.loop-a.a c.args.self.now c.loop-a.self c.loop-a.invariant l
 
 pub loop-a-preserved : goal.loop-a-preserved

@@ -6,10 +6,7 @@ use Rattle.reference.proofs.market.Told.tear_item.Goals as goal
 
 pub tear_with-requires-clause-room : goal.tear_with-requires-clause-room
 tear_with-requires-clause-room c =
-    let o = c.loop-b.invariant.onward in
     let l : c.loop-b.b < length (world_of c.args.self.now.market).accounts = simp length-map (search rules) in
-    let a = o.accounts in
-    let i = o.items in
     turn_room (item_walk c.args.a c.args.k) (length (world_of c.args.self.now.market).accounts) c.loop-b.b c.args.self.now c.loop-b.self c.loop-b.invariant l
 
 pub loop-b-preserved : goal.loop-b-preserved

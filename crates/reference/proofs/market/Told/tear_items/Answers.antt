@@ -6,10 +6,7 @@ use Rattle.reference.proofs.market.Told.tear_items.Goals as goal
 
 pub tear_item-requires-clause-room : goal.tear_item-requires-clause-room
 tear_item-requires-clause-room c =
-    let o = c.loop-k.invariant.onward in
     let l : c.loop-k.k < length (world_of c.args.self.now.market).items = simp length-map (search rules) in
-    let a = o.accounts in
-    let i = o.items in
     turn_room (items_walk c.args.a) (length (world_of c.args.self.now.market).items) c.loop-k.k c.args.self.now c.loop-k.self c.loop-k.invariant l
 
 pub loop-k-preserved : goal.loop-k-preserved

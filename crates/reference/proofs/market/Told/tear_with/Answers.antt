@@ -59,8 +59,7 @@ priced c =
 
 pub gets-requires-clause-price : goal.gets-requires-clause-price
 gets-requires-clause-price c =
-    let p = (priced (goal.at.gets-requires-clause-price c).After-index).1 in
-    p
+    (priced (goal.at.gets-requires-clause-price c).After-index).1
 
 pub gets-requires-clause-roomy : goal.gets-requires-clause-roomy
 gets-requires-clause-roomy c =
@@ -104,17 +103,11 @@ gets-requires-2-clause-item c =
 
 pub gets-requires-2-clause-price : goal.gets-requires-2-clause-price
 gets-requires-2-clause-price c =
-    let h = half (goal.at.gets-requires-2-clause-price c).After-gets in
-    let a = h.accounts in
-    let i = ap length h.items in
     (priced (goal.at.gets-requires-2-clause-price c).After-index).1
 
 pub gets-requires-2-clause-roomy : goal.gets-requires-2-clause-roomy
 gets-requires-2-clause-roomy c =
-    let h = half (goal.at.gets-requires-2-clause-roomy c).After-gets in
-    let a = h.accounts in
-    let i = ap length h.items in
-    h.roomy
+    (half (goal.at.gets-requires-2-clause-roomy c).After-gets).roomy
 
 -- the whole step
 stepped : (c : goal.After-gets-2) → torn_one (world_of c.args.self.now.market) c.args.a c.args.b c.args.k ≡
