@@ -14,12 +14,18 @@ use Rattle.wire.proofs.Places.{behind, both, front}
 two_fours : FieldLaws 8 (λ (x : ℕ × ℕ). four_of x.0 ++ four_of x.1) (λ bs i. (four bs i, four bs (i + 4))) (λ x. (x.0 < 2 ^ 32) × (x.1 < 2 ^ 32))
 two_fours =
     let l = then (here four_laws) (part 4 four_laws) in
-    record { sized = λ x. let e = l.sized 0 x in omega arith; back = l.back; only = l.only }
+    record {
+      sized = λ x. let e = l.sized 0 x in omega arith;
+      back = l.back;
+      fits = λ bs i b. (four_laws.fits bs i b, four_laws.fits bs (i + 4) b);
+      only = l.only;
+    }
 
 pub item_laws : FieldLaws 8 item_bytes item_in item_fits
 item_laws = record {
   sized = λ x. two_fours.sized (x.price, x.band);
   back = λ bs i x f h. ap (λ (t : ℕ × ℕ). let y : Item = record { price = t.0; band = t.1 } in y) (two_fours.back bs i (x.price, x.band) f h);
+  fits = two_fours.fits;
   only = two_fours.only;
 }
 
@@ -35,6 +41,11 @@ get_or_column bs i (suc n) zero l = let e : i + 8 * 0 ≡ i = omega arith in rw 
 get_or_column bs i (suc n) (suc k) l =
     let e : i + 8 * suc k ≡ (i + 8) + 8 * k = omega arith in
     rw e (get_or_column bs (i + 8) n k (omega arith))
+
+pub column_below : (bs : List ℕ) (i n : ℕ) → Bytes bs → AllByRecursion (λ p. p < 2 ^ 32) (column bs i n)
+unfolding column
+column_below bs i zero b = tt
+column_below bs i (suc n) b = (four_laws.fits bs i b, column_below bs (i + 8) n b)
 
 pub length_pairs : (ps qs : List ℕ) (n : ℕ) → length ps ≡ n → length qs ≡ n → length (pairs ps qs) ≡ 8 * n
 unfolding pairs

@@ -11,11 +11,17 @@ use Rattle.wire.specs.Number.{two, four, eight, two_of, four_of, eight_of}
 use Rattle.wire.specs.Reports.{signed, signed_of}
 use Rattle.wire.proofs.Places.{front, behind, both, held}
 
+pub byte_stands : (bs : List ℕ) (i : ℕ) → i + 1 ≤ length bs → Holds bs i (get_or bs i 0 ∷ [])
+byte_stands bs i l =
+    let h : i < length bs = omega arith in
+    rw (drop_more bs i 0 h)
+
 pub byte_laws : FieldLaws 1 (λ x. x ∷ []) slice_index (λ x. x < 256)
 byte_laws = record {
   sized = λ x. refl;
   back = λ bs i x l h. let z : i + 0 ≡ i = omega arith in rw z at (held bs i 0 (x ∷ []) (omega arith) h);
-  only = λ bs i b l. let h : i < length bs = omega arith in (rw (drop_more bs i 0 h), b i);
+  fits = λ bs i b. b i;
+  only = λ bs i b l. (byte_stands bs i l, b i);
 }
 
 two_held : (bs : List ℕ) (i x : ℕ) → x < 65536 → Holds bs i (two_of x) → two bs i ≡ x
@@ -39,14 +45,18 @@ two_stands : (bs : List ℕ) (i : ℕ) → Bytes bs → i + 2 ≤ length bs → 
 two_stands bs i b l =
     subst (Holds bs i) (two_cons (get_or bs i 0) (get_or bs (i + 1) 0) (b i) (b (i + 1)))
     (both bs i (i + 1) (get_or bs i 0 ∷ []) (get_or bs (i + 1) 0 ∷ []) refl
-    ((byte_laws.only bs i b (omega arith)).0) ((byte_laws.only bs (i + 1) b (omega arith)).0))
+    (byte_stands bs i (omega arith)) (byte_stands bs (i + 1) (omega arith)))
+
+two_below : (bs : List ℕ) (i : ℕ) → Bytes bs → two bs i < 2 ^ 16
+two_below bs i b = omega (arith, b i, b (i + 1))
 
 pub two_laws : FieldLaws 2 two_of two (λ x. x < 2 ^ 16)
 unfolding two_of
 two_laws = record {
   sized = λ x. refl;
   back = two_held;
-  only = λ bs i b l. (two_stands bs i b l, omega (arith, b i, b (i + 1)));
+  fits = two_below;
+  only = λ bs i b l. (two_stands bs i b l, two_below bs i b);
 }
 
 -- a number of twice the width, whose halves are below m
@@ -59,6 +69,7 @@ doubled n m f p z l = record {
       let a = l.back bs i (x % m) (mod-lt x z) (front bs i (f (x % m)) (f (x / m)) h) in
       let b = l.back bs (i + n) (x / m) ((div-lt_iff_lt-mul z).1 k) (behind bs i (i + n) (f (x % m)) (f (x / m)) e h) in
       rw (a, b, add_comm) (div-add-mod' x m);
+  fits = λ bs i b. rw (add_comm (p bs i) (p bs (i + n) * m)) (mul-add-lt (p bs (i + n)) m (p bs i) m (l.fits bs (i + n) b) (l.fits bs i b));
   only = λ bs i b k.
       let q = p bs i in
       let r = p bs (i + n) in
@@ -84,6 +95,7 @@ unfolding signed_of
 signed_laws = record {
   sized = λ z. eight_laws.sized (of_z w64 z);
   back = λ bs i z f h. ap (to_z w64) (eight_laws.back bs i (of_z w64 z) (Fits-of_z f).fits h) ∙ to_z-of_z w64 z f;
+  fits = λ bs i b. sfits_to_z (record { fits = eight_laws.fits bs i b });
   only = λ bs i b l.
       let e = eight_laws.only bs i b l in
       (subst (λ (x : ℕ). Holds bs i (eight_of x)) (sym (of_z-to_z w64 (eight bs i) e.1)) e.0, sfits_to_z (record { fits = e.1 }));

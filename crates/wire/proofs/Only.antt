@@ -31,7 +31,7 @@ evening bs i n b e l =
     let p = length_column bs (i + 1) n in
     let q = length_column bs (i + 5) n in
     let k = length_pairs ps qs n p q in
-    (cut bs i (1 + 8 * n) (5 ∷ pairs ps qs) (omega arith) (both bs i (i + 1) (5 ∷ []) (pairs ps qs) refl (kind_stands bs i 5 b e (omega arith)) o.0), (p, q, o.1, o.2))
+    (cut bs i (1 + 8 * n) (5 ∷ pairs ps qs) (omega arith) (both bs i (i + 1) (5 ∷ []) (pairs ps qs) refl (kind_stands bs i 5 e (omega arith)) o.0), (p, q, o.1, o.2))
 
 -- each kind in turn
 only_place : (bs : List ℕ) (i n : ℕ) (m : world.Message) (k : ℕ) → Bytes bs → get_or bs i 0 ≡ 3 → reads_place bs i ≡ Some (m, k) → Written bs i n m k
@@ -58,7 +58,7 @@ only_kind bs i n m k h b e r =
     (λ _ r5. by_pick (eqb h 5) _ _ (Some (m, k)) r5
     (λ t w. known (Written bs i n) bs i (1 + 8 * n) _ m k w (evening bs i n b (e ∙ eqb-true h 5 t)))
     (λ _ r6. by_pick (eqb h 6) _ None (Some (m, k)) r6
-    (λ t w. known (Written bs i n) bs i 1 _ m k w (λ l. (kind_stands bs i 6 b (e ∙ eqb-true h 6 t) l, tt)))
+    (λ t w. known (Written bs i n) bs i 1 _ m k w (λ l. (kind_stands bs i 6 (e ∙ eqb-true h 6 t) l, tt)))
     (λ _ w. absurd cc))))))
 
 pub read_message_only : (bs : List ℕ) (i n : ℕ) (m : world.Message) (k : ℕ) → Bytes bs → reads bs i n ≡ Some (m, k) → (take k (drop i bs) ≡ writes m) × Fits n m

@@ -2,7 +2,7 @@
 use Rattle.std.proofs.Common.{◌≡◌, ℕ, ◌+◌, ◌≤◌, List, [], ◌∷◌, ◌++◌, length, get_or, take, drop, Some, refl, ap, ◌∙◌, subst, add_assoc, arith, length-append}
 use Rattle.wire.specs.Field.{Bytes, FieldLaws, Holds}
 use Rattle.wire.specs.Messages.{whole}
-use Rattle.wire.proofs.Numbers.{byte_laws}
+use Rattle.wire.proofs.Numbers.{byte_stands}
 use Rattle.wire.proofs.Places.{behind, both, front, inside}
 use Rattle.wire.proofs.Whole.{cut, whole_is}
 
@@ -53,13 +53,13 @@ read_back {f = f} k l m h bs i x r s =
     let t : i + k ≤ length bs = rw n at (inside bs i (h ∷ f x) (omega arith) s) in
     rw (e, n) (whole_is bs i k (m x) t)
 
-pub kind_stands : (bs : List ℕ) (i h : ℕ) → Bytes bs → get_or bs i 0 ≡ h → i + 1 ≤ length bs → Holds bs i (h ∷ [])
-kind_stands bs i h b e l = subst (λ (y : ℕ). Holds bs i (y ∷ [])) e (byte_laws.only bs i b l).0
+pub kind_stands : (bs : List ℕ) (i h : ℕ) → get_or bs i 0 ≡ h → i + 1 ≤ length bs → Holds bs i (h ∷ [])
+kind_stands bs i h e l = subst (λ (y : ℕ). Holds bs i (y ∷ [])) e (byte_stands bs i l)
 
 pub read_only : {X : Type 0} {f : X → List ℕ} {p : List ℕ → ℕ → X} {P : X → Type 0} (k : ℕ) → Part (λ j. j + 1) (λ j. j + k) f p P →
     (h : ℕ) (bs : List ℕ) (i : ℕ) → Bytes bs → get_or bs i 0 ≡ h → i + k ≤ length bs → (take k (drop i bs) ≡ h ∷ f (p bs i)) × P (p bs i)
 read_only {f = f} {p = p} k l h bs i b e t =
     let o = l.only bs i b t in
     let n : length (h ∷ f (p bs i)) ≡ k = size k h i (p bs i) l in
-    let s = kind_stands bs i h b e (omega arith) in
+    let s = kind_stands bs i h e (omega arith) in
     (cut bs i k (h ∷ f (p bs i)) n (both bs i (i + 1) (h ∷ []) (f (p bs i)) refl s o.0), o.1)

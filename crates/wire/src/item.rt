@@ -3,6 +3,7 @@ ghost use Rattle.wire.specs.Means.{item_bytes, item_in};
 
 use crate::encode::Encode;
 use crate::field::Field;
+use crate::fixed::write_whole;
 use std::alloc::AllocError;
 
 #[derive(Clone, Copy, Debug, PartialEq, Eq)]
@@ -15,7 +16,7 @@ impl Encode for Item {
     ghost bytes = { item_bytes };
 
     fn write(&self, out: &mut Vec<u8>) -> Result<(), AllocError> {
-        (self.price, self.band).write(out)
+        write_whole(&(self.price, self.band), out)
     }
 }
 

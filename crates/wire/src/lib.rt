@@ -4,6 +4,7 @@
 pub mod array;
 pub mod encode;
 pub mod field;
+mod fixed;
 pub mod item;
 pub mod kind;
 pub mod kinds;

@@ -5,6 +5,7 @@ ghost use Rattle.wire.specs.Reports.{report_bytes, reports_bytes};
 ghost use Rattle.wire.specs.Writing.{Wrote, WroteIf};
 
 use crate::encode::Encode;
+use crate::fixed::write_whole;
 use crate::report::Report;
 use crate::report_kind::ReportKind;
 use crate::row::Row;
@@ -17,8 +18,8 @@ impl Encode for Report {
 
     fn write(&self, out: &mut Vec<u8>) -> Result<(), AllocError> {
         match *self {
-            Report::Taken { number } => (ReportKind::Taken, number).write(out),
-            Report::Refused => ReportKind::Refused.write(out),
+            Report::Taken { number } => write_whole(&(ReportKind::Taken, number), out),
+            Report::Refused => write_whole(&ReportKind::Refused, out),
             Report::Trade {
                 newer,
                 older,
@@ -27,14 +28,14 @@ impl Encode for Report {
                 quantity,
             } => {
                 let traded = (item, (price, quantity));
-                (ReportKind::Trade, (newer, (older, traded))).write(out)
+                write_whole(&(ReportKind::Trade, (newer, (older, traded))), out)
             }
             Report::Torn {
                 account,
                 other,
                 item,
                 held,
-            } => (ReportKind::Torn, (account, (other, (item, held)))).write(out),
+            } => write_whole(&(ReportKind::Torn, (account, (other, (item, held)))), out),
         }
     }
 }

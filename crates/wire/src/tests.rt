@@ -35,6 +35,31 @@ fn messages_have_their_bytes(rt: HostRuntime) -> Result<(), Fail> {
 }
 
 #[test]
+fn payments_and_cancels_come_back(rt: HostRuntime) -> Result<(), Fail> {
+    let mut out = Vec::new(rt.alloc());
+    let pay_in = Message::PayIn {
+        account: 3,
+        amount: 256,
+    };
+    write_message(&pay_in, &[], 1, &mut out)?;
+    let cancel = Message::Cancel {
+        account: 4,
+        number: 7,
+    };
+    write_message(&cancel, &[], 1, &mut out)?;
+    assert_eq!(rt;
+        out.as_slice(),
+        [
+            1, 3, 0, 0, 1, 0, 0, 0, 0, 0, 0, 4, 4, 0, 7, 0, 0, 0, 0, 0, 0, 0
+        ]
+        .as_slice()
+    );
+    assert_eq!(rt; read_message(&out, 0, 1), Ok((pay_in, 11)));
+    assert_eq!(rt; read_message(&out, 11, 1), Ok((cancel, 11)));
+    Ok(())
+}
+
+#[test]
 fn evening_has_its_bytes(rt: HostRuntime) -> Result<(), Fail> {
     let mut out = Vec::new(rt.alloc());
     let items = [
@@ -48,6 +73,10 @@ fn evening_has_its_bytes(rt: HostRuntime) -> Result<(), Fail> {
     assert_eq!(rt;
         out.as_slice(),
         [5, 7, 0, 0, 0, 9, 0, 0, 0, 0, 1, 0, 0, 1, 0, 0, 0].as_slice()
+    );
+    assert_eq!(rt;
+        read_message(&out, 0, 2),
+        Ok((Message::EndDay { prices: 1 }, 17))
     );
     assert_eq!(rt;
         Item::read(&out, 9),
@@ -102,5 +131,31 @@ fn reports_come_back_together(rt: HostRuntime) -> Result<(), Fail> {
     let mut reports = Vec::new(rt.alloc());
     assert_eq!(rt; read_reports(&out, 0, &mut reports), Ok(20));
     assert_eq!(rt; reports.as_slice(), [Report::Refused, torn].as_slice());
+    Ok(())
+}
+
+#[test]
+fn errors_are_printed(rt: HostRuntime) -> Result<(), Fail> {
+    let heap = rt.alloc();
+    let memory = format!(in heap; "{}; {}", Unwritten::Memory, Unread::Memory)?;
+    assert_eq!(rt;
+        memory.as_str(),
+        "there is no memory for the bytes; there is no memory for the reports"
+    );
+    let prices = format!(in heap; "{}", Unwritten::Prices)?;
+    assert_eq!(rt;
+        prices.as_str(),
+        "the prices of an end of day are not in the bytes that it was read from"
+    );
+    let many = format!(in heap; "{}", Unwritten::Many)?;
+    assert_eq!(rt;
+        many.as_str(),
+        "there are more reports than four bytes can count"
+    );
+    let none = format!(in heap; "{}; {}", Unread::NoReports, UnknownByte(9))?;
+    assert_eq!(rt;
+        none.as_str(),
+        "the bytes are no reports with their number in front; the byte 9 stands for nothing here"
+    );
     Ok(())
 }

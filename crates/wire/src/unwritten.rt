@@ -1,10 +1,11 @@
 // Why bytes are not written.
-ghost use Rattle.std.specs.Prelude.{◌≡◌, Some};
+ghost use Rattle.std.specs.Prelude.{◌≡◌, ◌≤◌, Some};
 ghost use Rattle.wire.specs.Texts.{unwritten_text};
 ghost use Rattle.wire.specs.Writing.{Wrote};
 ghost use Rattle.wire.specs.declared.unwritten.Unwritten.TheVariants.{Memory};
 
 use crate::encode::Encode;
+use crate::fixed::{Fixed, write_whole};
 use std::alloc::AllocError;
 use std::error::Error;
 use std::fmt;
@@ -48,4 +49,12 @@ pub(crate) fn put<T: Encode>(value: &T, out: &mut Vec<u8>) -> Result<(), Unwritt
     ensures { Wrote out.old.items out.new.items (T.bytes value.now) result }
 {
     Ok(value.write(out)?)
+}
+
+// The same of a value of 32 bytes at most, in one piece.
+pub(crate) fn put_whole<T: Fixed>(value: &T, out: &mut Vec<u8>) -> Result<(), Unwritten>
+    requires { T.size ≤ 32 }
+    ensures { Wrote out.old.items out.new.items (T.bytes value.now) result }
+{
+    Ok(write_whole(value, out)?)
 }

@@ -7,7 +7,7 @@ use crate::item::Item;
 use crate::kind::Kind;
 use crate::message::Message;
 use crate::row::Row;
-use crate::unwritten::{Unwritten, put};
+use crate::unwritten::{Unwritten, put, put_whole};
 
 // An end of day as it lies in the bytes that it was read from: these go beside it, since a message holds only where its prices start.
 fn copy_end_day(
@@ -40,8 +40,8 @@ pub fn write_message(
         (writes (message_of source.now items message.now)) result }
 {
     match *message {
-        Message::PayIn { account, amount } => put(&(Kind::PayIn, (account, amount)), out),
-        Message::PayOut { account, amount } => put(&(Kind::PayOut, (account, amount)), out),
+        Message::PayIn { account, amount } => put_whole(&(Kind::PayIn, (account, amount)), out),
+        Message::PayOut { account, amount } => put_whole(&(Kind::PayOut, (account, amount)), out),
         Message::Place {
             account,
             item,
@@ -49,14 +49,14 @@ pub fn write_message(
             price,
             quantity,
         } => {
-            put(
+            put_whole(
                 &(Kind::Place, (account, (item, (side, (price, quantity))))),
                 out,
             )
         }
-        Message::Cancel { account, number } => put(&(Kind::Cancel, (account, number)), out),
+        Message::Cancel { account, number } => put_whole(&(Kind::Cancel, (account, number)), out),
         Message::EndDay { prices } => copy_end_day(source, prices, items, out),
-        Message::BeginDay => put(&Kind::BeginDay, out),
+        Message::BeginDay => put_whole(&Kind::BeginDay, out),
     }
 }
 
