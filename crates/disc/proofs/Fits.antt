@@ -5,8 +5,9 @@ use Rattle.std.proofs.lemmas.Bool.Decides.{nat_tests}
 use Rattle.wire.specs.Means.{item_of}
 use Rattle.wire.specs.Number.{four}
 use Rattle.wire.specs.declared.item.Item.{Item}
+use Rattle.disc.proofs.Refusals.{taken}
 use Rattle.disc.proofs.Steps.{length_items_from}
-use Rattle.disc.specs.Block0.{bad_number, bad_item, bad_length, items_from, items_on, accounts_on, orders_on, money_on, numbers_on}
+use Rattle.disc.specs.Block0.{header_refusal, bad_number, bad_item, bad_length, items_from, items_on, accounts_on, orders_on, money_on, numbers_on}
 use Rattle.disc.specs.Layout.{needed_bytes}
 use Rattle.disc.specs.Sizes.{AreSizesOn}
 use Rattle.disc.specs.declared.layout.Sizes.{Sizes}
@@ -52,6 +53,32 @@ unfolding numbers_on
 range_on bs e f =
     let counts = counts_from bs e in
     rw (length_items_from bs 24 (items_on bs), counts.0) (items_from_fit bs 24 (items_on bs) (whole_of bs f) counts.1)
+
+-- what is known of the numbers of a disc that is not refused
+pub record Held (bs : List ℕ) : Type 0 where
+  pub long : 512 ≤ length bs
+  pub few : items_on bs ≤ 256
+  pub whole : 24 + 8 * items_on bs ≤ length bs
+  pub counts : counts_fit (items_on bs) (accounts_on bs) (orders_on bs) (money_on bs) ≡ true
+  pub items : items_fit (items_from bs 24 (items_on bs)) ≡ true
+  pub range : in_range (numbers_on bs) ≡ true
+
+pub few_of : (n a o m : ℕ) → counts_fit n a o m ≡ true → n ≤ 256
+few_of n a o m e = grind (arith, nat_tests)
+
+pub held : (bs : List ℕ) → header_refusal bs ≡ None → Held bs
+held bs e =
+    let t = taken bs e in
+    let f = counts_from bs t.numbers in
+    let whole = whole_of bs t.sized in
+    record {
+      long = t.long;
+      few = few_of (items_on bs) (accounts_on bs) (orders_on bs) (money_on bs) f.0;
+      whole = whole;
+      counts = f.0;
+      items = items_from_fit bs 24 (items_on bs) whole f.1;
+      range = range_on bs t.numbers t.sized;
+    }
 
 pub same_numbers :
     (bs : List ℕ) (s : Sizes) (m : ℕ) (is : List Item) → AreSizesOn bs s → m ≡ money_on bs →

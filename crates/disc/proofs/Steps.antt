@@ -26,7 +26,7 @@ unfolding bad_item
 bad_item_end bs i = refl
 
 -- behind the disc's end nothing is bad
-past_end : (bs : List ℕ) (i n : ℕ) → length bs < i + 4 → bad_item bs i n ≡ None
+pub past_end : (bs : List ℕ) (i n : ℕ) → length bs < i + 4 → bad_item bs i n ≡ None
 unfolding bad_item
 past_end bs i zero h = refl
 past_end bs i (suc n) h = rw (lt-ltb (length bs) (i + 4) h)

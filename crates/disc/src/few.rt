@@ -1,5 +1,5 @@
 // Up to N values of one type, in room that lies in the value itself.
-ghost use Rattle.std.specs.Prelude.{◌≡◌, ◌<◌, ◌≤◌, ◌↔◌, [], ◌∷◌, ◌++◌, length, ⊤, IsOk, IfOk, OnOk, OnErr, Some, codes};
+ghost use Rattle.std.specs.Prelude.{◌≡◌, ◌<◌, ◌≤◌, ◌↔◌, [], ◌∷◌, ◌++◌, length, ⊤, IsOk, IfOk, OnOk, OnErr, Some};
 ghost use Rattle.std.specs.Cmp.{on_equiv, on_per};
 ghost use Rattle.std.specs.Cmp.Lexicographic.{pointwise, lists_equiv, lists_per};
 
@@ -34,7 +34,9 @@ pub struct NoRoom;
 
 // By hand, since a derive would write no clause.
 impl fmt::Display for NoRoom {
-    ghost output = { λ _. Some (codes "there is no room for so many") };
+    ghost use Rattle.disc.specs.Texts.{no_room_text};
+
+    ghost output = { λ _. Some no_room_text };
 
     fn fmt<W: fmt::Write>(&self, f: &mut fmt::Formatter<W>) -> fmt::Result {
         f.write_str("there is no room for so many")

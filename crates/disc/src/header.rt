@@ -1,5 +1,5 @@
 // The numbers that a market begins with, all in range.
-ghost use Rattle.std.specs.Prelude.{◌≡◌, true, Some, codes};
+ghost use Rattle.std.specs.Prelude.{◌≡◌, true, Some};
 ghost use Rattle.disc.specs.Few.{few_items};
 ghost use Rattle.disc.specs.Numbers.{in_range, numbers_of};
 
@@ -31,7 +31,9 @@ pub struct OutOfRange;
 
 // By hand, since a derive would write no clause.
 impl fmt::Display for OutOfRange {
-    ghost output = { λ _. Some (codes "a number of the market is out of range") };
+    ghost use Rattle.disc.specs.Texts.{out_of_range_text};
+
+    ghost output = { λ _. Some out_of_range_text };
 
     fn fmt<W: fmt::Write>(&self, f: &mut fmt::Formatter<W>) -> fmt::Result {
         f.write_str("a number of the market is out of range")

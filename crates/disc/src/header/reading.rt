@@ -50,7 +50,12 @@ fn check_items(bytes: &[u8], count: usize) -> Result<(), usize>
     ensures { MatchResult result (λ _. bad_item bytes.now 24 count ≡ None) (λ at. bad_item bytes.now 24 count ≡ Some at) }
 {
     for k in 0..count {
-        check_item(bytes, 24 + 8 * k)?;
+        let i = 24 + 8 * k;
+        // Nothing lies behind the disc's end, however many items it should have.
+        if bytes.len() < i + 4 {
+            return Ok(());
+        }
+        check_item(bytes, i)?;
     }
     Ok(())
 }
