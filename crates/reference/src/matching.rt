@@ -45,9 +45,13 @@ impl Order {
         ensures { result ≡ first_of (order_of self.now) (map order_of orders.now) i best }
     {
         let r = &orders[i];
+        // Asked first, as most don't meet it.
+        if !self.meets(r) {
+            return false;
+        }
         match best {
-            None => self.meets(r),
-            Some(j) => self.meets(r) && !self.prefers(orders[j].price, r.price),
+            None => true,
+            Some(j) => !self.prefers(orders[j].price, r.price),
         }
     }
 }

@@ -55,6 +55,10 @@ fn losses_of(account: u16, item: u16, at: Item, orders: &[Order]) -> Losses
     let mut buys: u128 = 0;
     let mut sells: u128 = 0;
     for o in orders {
+        // Passed over at once, as most are: of others' orders nothing is added.
+        if o.account != account || o.item != item {
+            continue;
+        }
         let one = loss_of(o, account, item, at);
         buys += one.buys;
         sells += one.sells;
