@@ -4,7 +4,7 @@ use std::io;
 use thiserror::Error;
 use wire::Refusal;
 
-#[derive(Debug, Drop, Error)]
+#[derive(Clone, Copy, Debug, Error)]
 pub enum Unplayed {
     // The disc, or the bytes where a message should be, are not taken.
     #[error("refused")]

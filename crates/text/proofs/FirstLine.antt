@@ -1,7 +1,8 @@
 -- The first line of a text, and the lines behind it.
-use Rattle.std.proofs.Common.{◌≡◌, ℕ, ◌+◌, ◌<◌, Bool, true, false, cond, not, eqb, List, [], ◌∷◌, length, take, drop, take_while, refl, arith}
-use Rattle.std.specs.List.{prefix_len}
+use Rattle.std.proofs.Common.{◌≡◌, ℕ, ◌+◌, ◌<◌, ◌≤◌, Bool, true, false, cond, not, eqb, List, [], ◌∷◌, length, take, drop, take_while, Some, None, refl, arith}
+use Rattle.std.specs.List.{position, prefix_len}
 use Rattle.std.proofs.Math.Numerals.{one-add}
+use Rattle.std.proofs.lemmas.Bool.Decides.{nat_tests}
 use Rattle.text.specs.Words.{lines, other_than, with_byte}
 
 -- bytes that begin with a line's first byte
@@ -21,3 +22,10 @@ pub lines_next :
 unfolding lines
 lines_next [] h = absurd (omega arith)
 lines_next (b ∷ bs) h = line_on b bs (eqb b 10) (lines_next bs)
+
+-- by where the first line feed stands, if there is one
+pub line_found : (bs : List ℕ) (e : ℕ) → position (λ b. eqb b 10) bs ≡ Some e → (prefix_len (other_than 10) bs ≡ e) × (e < length bs)
+line_found bs e h = grind (arith, nat_tests)
+
+pub line_alone : (bs : List ℕ) → position (λ b. eqb b 10) bs ≡ None → length bs ≤ prefix_len (other_than 10) bs
+line_alone bs h = grind (arith, nat_tests)

@@ -51,10 +51,9 @@ pub(crate) fn first_line(bytes: &[u8]) -> (&[u8], &[u8])
     ensures lines { 0 < length bytes.now → lines bytes.now ≡ result.0.now ∷ lines result.1.now }
     ensures shorter { 0 < length bytes.now → length result.1.now < length bytes.now }
 {
-    let (line, rest) = bytes.split_at(until(bytes, b'\n'));
-    match rest {
-        [_, behind @ ..] => (line, behind),
-        [] => (line, rest),
+    match bytes.iter().position(|b| *b == b'\n') {
+        Some(end) => (&bytes[..end], &bytes[end + 1..]),
+        None => (bytes, &[]),
     }
 }
 
