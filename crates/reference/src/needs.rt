@@ -55,7 +55,7 @@ fn losses_of(account: u16, item: u16, at: Item, orders: &[Order]) -> Losses
     let mut buys: u128 = 0;
     let mut sells: u128 = 0;
     for o in orders {
-        // Passed over at once, as most are: of others' orders nothing is added.
+        // Passed over at once, as most are: nothing is added for another account's order, or one in another item.
         if o.account != account || o.item != item {
             continue;
         }
