@@ -16,19 +16,16 @@ struct Losses {
     sells: u128,
 }
 
-// An account's number, an item's number and the item go along through three functions here: a struct of them would be made for each item
+// An account's number, an item's number and the item go along through two functions here: a struct of them would be made for each item
 // and taken apart at once. Each asks for fewer than 2^32 orders of the one row that it hands on, so that its own sum fits.
 
-// What the order could lose if it is the account's and in the item; else nothing.
+// What the order could lose, in its item, which is as it is told.
 #[tactic(auto, using(std::proofs::lemmas::Bool::Decides::nat_tests), unfolding(crate::specs::Parts::buy_loss, crate::specs::Parts::sell_loss))]
-fn loss_of(o: &Order, account: u16, item: u16, at: Item) -> Losses
-    ensures buys { result.buys ≡ buy_loss account item (item_of at) (order_of o.now) }
-    ensures sells { result.sells ≡ sell_loss account item (item_of at) (order_of o.now) }
+fn loss_of(o: &Order, at: Item) -> Losses
+    ensures buys { result.buys ≡ buy_loss o.now.account o.now.item (item_of at) (order_of o.now) }
+    ensures sells { result.sells ≡ sell_loss o.now.account o.now.item (item_of at) (order_of o.now) }
     ensures bound { (result.buys ≤ 2 ^ 65) × (result.sells ≤ 2 ^ 65) }
 {
-    if o.account != account || o.item != item {
-        return Losses { buys: 0, sells: 0 };
-    }
     let left = u128::from(o.left);
     let order = u128::from(o.price);
     let (price, band) = (u128::from(at.price), u128::from(at.band));
@@ -55,11 +52,11 @@ fn losses_of(account: u16, item: u16, at: Item, orders: &[Order]) -> Losses
     let mut buys: u128 = 0;
     let mut sells: u128 = 0;
     for o in orders {
-        // Passed over at once, as most are: nothing is added for another account's order, or one in another item.
+        // Passed over at once, as most are: nothing is added for another account's order, or for one in another item.
         if o.account != account || o.item != item {
             continue;
         }
-        let one = loss_of(o, account, item, at);
+        let one = loss_of(o, at);
         buys += one.buys;
         sells += one.sells;
     }

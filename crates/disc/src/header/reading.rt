@@ -22,15 +22,12 @@ fn is_marked(bytes: &[u8]) -> bool
 }
 
 // The item at `i` has its price and its band in range, else the error is the place of the first that is out of range.
-// The disc may end before the item does, so its price can lie there without its band.
+// Its price lies there; the disc may end before its band does.
 #[tactic(auto, using(crate::proofs::Steps::item_tests))]
 fn check_item(bytes: &[u8], i: usize) -> Result<(), usize>
-    requires { i + 8 < 2 ^ 64 }
+    requires { i + 4 ≤ length bytes.now }
     ensures { MatchResult result (λ _. bad_item bytes.now i 1 ≡ None) (λ at. bad_item bytes.now i 1 ≡ Some at) }
 {
-    if bytes.len() < i + 4 {
-        return Ok(());
-    }
     let price = u32::read(bytes, i);
     if !price_fits(price) {
         return Err(i);

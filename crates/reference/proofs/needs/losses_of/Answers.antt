@@ -17,6 +17,7 @@ loop-o-preserved-then-o-account c =
     grind (arith, nat_tests)
 
 pub loop-o-preserved : goal.loop-o-preserved
+unfolding buy_loss sell_loss
 loop-o-preserved c =
     let b = buys_more c.args.account c.args.item c.args.orders.now c.loop-o.o-index c.loop-o-test.true (item_of c.args.at)
     in
